@@ -1,0 +1,5 @@
+pub mod Meaning
+pub mod Telling
+pub mod Product
+pub mod Listed
+pub mod Codes

@@ -1,0 +1,3 @@
+//! The words that all parts of the decoder share: rows and sides of a code, and numbered refusals.
+pub mod refusal;
+pub mod row;

@@ -2,7 +2,7 @@
 use mathlib.Core.Path.{_≡_, refl, sym, ap, _∙_}
 use mathlib.Core.Logic.{_⊎_, inl, inr}
 use mathlib.Core.Bool.{Bool, true, false, not, _&&_, _||_, false≢true}
-use mathlib.Core.List.{List, [], _∷_, map}
+use mathlib.Core.List.{List, [], _∷_, _++_, map}
 use Prim.Native.Nat.{ℕ, zero, suc, _<_}
 use native.Mathlib.Omega.{arith}
 use lib.ListN.{length, length-replicate, length-set, length-map}
@@ -10,7 +10,7 @@ use lib.Seq.{getD-set-same}
 use Rattle.sets.specs.Bits.{flip}
 use Rattle.sets.specs.Lists.{In}
 use Rattle.sets.specs.Sets.{has, row, over, join, meet, less, plus, empty, only, any, meets, within, holders, odd}
-use Rattle.sets.proofs.Bits.{clash, and-both, and-pair, or-cases, or-left, or-right, or-none, deny, and-flip, flip-four, flip-false}
+use Rattle.sets.proofs.Bits.{either, clash, and-both, and-pair, or-cases, or-left, or-right, or-none, deny, and-flip, flip-four, flip-false, flip-assoc}
 
 pub has-map : (f : Bool → Bool) → f false ≡ false → (m : List Bool) (k : ℕ) → has (map f m) k ≡ f (has m k)
 has-map f z [] k = sym z
@@ -195,3 +195,44 @@ pub row-in : (sets : List (List Bool)) (d : ℕ) → In (row sets d) sets ⊎ (r
 row-in [] d = inr refl
 row-in (c ∷ sets) zero = inl (inl refl)
 row-in (c ∷ sets) (suc d) = elim (row-in sets d) [ inl m ↦ inl (inr m) | inr e ↦ inr e ]
+
+pub row-of : (sets : List (List Bool)) (d : ℕ) → d < length sets → In (row sets d) sets
+row-of [] d h = absurd (omega arith)
+row-of (c ∷ sets) zero h = inl refl
+row-of (c ∷ sets) (suc d) h = let h′ : d < length sets = omega arith in inr (row-of sets d h′)
+
+-- a set with at most one element, which the other has
+pub odd-one : (c x : List Bool) (q : ℕ) → has c q ≡ true → ((i : ℕ) → has x i ≡ true → i ≡ q) → odd c x ≡ has x q
+odd-one [] x q p f = absurd (false≢true p)
+odd-one (b ∷ c) [] q p f = refl
+odd-one (b ∷ c) (x ∷ xs) zero p f =
+    let e : odd c xs ≡ false = odd-apart c xs (λ i _ t. absurd (omega (arith, f (suc i) t))) in
+    ap (λ t. flip (t && x) (odd c xs)) p ∙ ap (flip x) e ∙ flip-false x
+odd-one (b ∷ c) (x ∷ xs) (suc q) p f =
+    ap (λ t. flip t (odd c xs)) (deny (b && x) (λ t. absurd (omega (arith, f 0 (and-both b x t .1)))))
+    ∙ odd-one c xs q p (λ i t. let e : suc i ≡ suc q = f (suc i) t in omega arith)
+
+pub odd-only : (c : List Bool) (n k : ℕ) → k < n → odd c (only n k) ≡ has c k
+odd-only c n k h = elim (either (has c k)) [
+  | inl e ↦ odd-one c (only n k) k e (only-other n k) ∙ only-self n k h ∙ sym e
+  | inr e ↦ odd-apart c (only n k) (λ i p q. clash (ap (has c) (sym (only-other n k i q)) ∙ p) e) ∙ sym e
+]
+
+pub odd-comm : (c x : List Bool) → odd c x ≡ odd x c
+odd-comm [] x = odd-nil x ∙ sym (odd-none x)
+odd-comm (b ∷ c) [] = refl
+odd-comm (b ∷ c) (x ∷ xs) = ap (λ t. flip t (odd c xs)) (and-swap b x) ∙ ap (flip (x && b)) (odd-comm c xs)
+  where
+    and-swap : (a b : Bool) → (a && b) ≡ (b && a)
+    and-swap true true = refl
+    and-swap true false = refl
+    and-swap false true = refl
+    and-swap false false = refl
+
+pub odd-append : (a b c d : List Bool) → length a ≡ length c → odd (a ++ b) (c ++ d) ≡ flip (odd a c) (odd b d)
+odd-append [] b [] d l = refl
+odd-append [] b (y ∷ c) d l = absurd (omega arith)
+odd-append (x ∷ a) b [] d l = absurd (omega arith)
+odd-append (x ∷ a) b (y ∷ c) d l =
+    let l′ : length a ≡ length c = omega arith in
+    ap (flip (x && y)) (odd-append a b c d l′) ∙ sym (flip-assoc (x && y) (odd a c) (odd b d))

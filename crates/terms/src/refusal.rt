@@ -78,14 +78,16 @@ impl Refusal {
             Refusal::PruneListLength => "a prune list names no generator or more than 4",
             Refusal::BufferTooShort => "a buffer is too short",
             Refusal::NotRising => "a list does not rise strictly, or a row names a qubit twice",
-            Refusal::OutsideLimits => "a size, side, seed place, switch sum or section count is outside its limits",
+            Refusal::OutsideLimits =>
+                "a size, side, seed place, switch sum or section count is outside its limits",
             Refusal::LawFails => "a check and a generator share an odd number of qubits",
             Refusal::NotAwaited => "the file has something else than what is awaited here",
             Refusal::WrongEnd => "the file ends early or goes on after its last section",
             Refusal::FileTooLong => "the file is too long",
             Refusal::ScratchNotZero => "a scratch byte in use is not zero",
             Refusal::NotDangling => "the check is closed or does not hold exactly one erased qubit",
-            Refusal::NothingErased => "the qubit to solve at is not erased, or nothing is erased to sweep",
+            Refusal::NothingErased =>
+                "the qubit to solve at is not erased, or nothing is erased to sweep",
             Refusal::GeneratorNotErased => "a qubit of a named generator is not erased",
             Refusal::EvenlyNamed => "the qubit lies in an even number of the listed generators",
             Refusal::SeveralConnecting => "the cluster has two or more connecting checks",

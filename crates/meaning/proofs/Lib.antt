@@ -1,0 +1,4 @@
+pub mod Blocks
+pub mod Product
+pub mod Told
+pub mod Turned

@@ -1,3 +1,4 @@
+pub mod Answered
 pub mod Blocks
 pub mod Product
 pub mod Told

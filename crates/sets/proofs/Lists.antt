@@ -2,10 +2,10 @@
 use mathlib.Core.Path.{_≡_, refl, sym, ap, _∙_, subst}
 use mathlib.Core.Logic.{_⊎_, inl, inr, ⊎-elim, _↔_, _≢_}
 use mathlib.Core.List.{List, [], _∷_, _++_, map}
-use Prim.Native.Nat.{ℕ, zero, suc, _+_, _*_, _≤_}
+use Prim.Native.Nat.{ℕ, zero, suc, _+_, _*_, _≤_, _<_}
 use native.Mathlib.Omega.{arith}
 use native.Mathlib.Nat.{zero-mul, suc-mul}
-use lib.ListN.{length, length-append}
+use lib.ListN.{length, getD, length-append}
 use Rattle.sets.specs.Lists.{In, Distinct, flatIn}
 
 module _ {X : Type 0} where
@@ -27,6 +27,11 @@ module _ {X : Type 0} where
   in-cases x [] t m = inr m
   in-cases x (y ∷ s) t (inl e) = inl (inl e)
   in-cases x (y ∷ s) t (inr m) = elim (in-cases x s t m) [ inl a ↦ inl (inr a) | inr b ↦ inr b ]
+
+  pub in-getD : (l : List X) (k : ℕ) (d : X) → k < length l → In (getD l k d) l
+  in-getD [] k d h = absurd (omega arith)
+  in-getD (y ∷ l) zero d h = inl refl
+  in-getD (y ∷ l) (suc k) d h = let h′ : k < length l = omega arith in inr (in-getD l k d h′)
 
   pub distinct-append : (s t : List X) → Distinct s → Distinct t → ((x : X) → In x s → In x t → ⊥) → Distinct (s ++ t)
   distinct-append [] t ds dt apart = dt

@@ -10,6 +10,7 @@ use lib.Seq.{getD-set-same}
 use Rattle.sets.specs.Bits.{flip}
 use Rattle.sets.specs.Lists.{In}
 use Rattle.sets.specs.Sets.{has, row, over, join, meet, less, plus, empty, only, any, meets, within, holders, odd}
+use Rattle.sets.proofs.Lists.{in-getD}
 use Rattle.sets.proofs.Bits.{either, clash, and-both, and-pair, or-cases, or-left, or-right, or-none, deny, and-flip, flip-four, flip-false, flip-assoc}
 
 pub has-map : (f : Bool → Bool) → f false ≡ false → (m : List Bool) (k : ℕ) → has (map f m) k ≡ f (has m k)
@@ -197,9 +198,7 @@ row-in (c ∷ sets) zero = inl (inl refl)
 row-in (c ∷ sets) (suc d) = elim (row-in sets d) [ inl m ↦ inl (inr m) | inr e ↦ inr e ]
 
 pub row-of : (sets : List (List Bool)) (d : ℕ) → d < length sets → In (row sets d) sets
-row-of [] d h = absurd (omega arith)
-row-of (c ∷ sets) zero h = inl refl
-row-of (c ∷ sets) (suc d) h = let h′ : d < length sets = omega arith in inr (row-of sets d h′)
+row-of sets d h = in-getD sets d [] h
 
 -- a set with at most one element, which the other has
 pub odd-one : (c x : List Bool) (q : ℕ) → has c q ≡ true → ((i : ℕ) → has x i ≡ true → i ≡ q) → odd c x ≡ has x q

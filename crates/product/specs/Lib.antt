@@ -1,0 +1,4 @@
+pub mod Words
+pub mod Seed
+pub mod Parts
+pub mod OfProduct

@@ -1,5 +1,5 @@
 //! The product code of a seed.
+mod part;
 pub mod place;
 pub mod product;
-mod part;
 mod words;

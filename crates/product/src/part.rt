@@ -12,3 +12,10 @@ pub(crate) struct Part {
     ghost first_low: { first ≤ 2048 },
     ghost step_low: { step ≤ 32 },
 }
+
+/// The qubits of a row: those on side 0, and then those on side 1.
+#[derive(Clone, Copy)]
+pub(crate) struct Parts {
+    front: Part,
+    back: Part,
+}

@@ -1,5 +1,6 @@
 //! The ones of a word.
 ghost use mathlib.Core.Path.{_≡_};
+ghost use Prim.Native.Nat.{_≤_};
 ghost use lib.Dec.{ltb};
 ghost use lib.ListN.{length, getD};
 ghost use Rattle.sets.specs.Sets.{elements};
@@ -8,7 +9,8 @@ ghost use Rattle.product.specs.Words.{ones};
 
 /// How many ones a word has.
 pub(crate) fn count_of_ones(word: u32) -> u16
-    ensures { λ r. ⌜ r ≡ length (elements (ones word)) ⌝ }
+    ensures value { λ r. ⌜ r ≡ length (elements (ones word)) ⌝ }
+    ensures bound { λ r. ⌜ r ≤ 32 ⌝ }
 {
     word.count_ones() as u16
 }
@@ -24,5 +26,9 @@ pub(crate) fn place_of_one(word: u32, k: u16) -> Option<u16>
         }
         rest &= rest - 1;
     }
-    if rest == 0 { None } else { Some(rest.trailing_zeros() as u16) }
+    if rest == 0 {
+        None
+    } else {
+        Some(rest.trailing_zeros() as u16)
+    }
 }

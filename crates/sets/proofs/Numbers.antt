@@ -1,7 +1,7 @@
 -- Tests on numbers, counted lists, and lists of numbers: what they name, and how often.
 use mathlib.Core.Path.{_≡_, refl, sym, ap, _∙_, subst}
 use mathlib.Core.Logic.{_⊎_, inl, inr}
-use mathlib.Core.Bool.{Bool, true, false, _||_, false≢true}
+use mathlib.Core.Bool.{Bool, true, false, _||_, true≢false, false≢true}
 use mathlib.Core.List.{List, [], _∷_, _++_, map}
 use Prim.Native.Nat.{ℕ, zero, suc, _+_, _<_, _≤_}
 use native.Mathlib.Omega.{arith}
@@ -93,3 +93,15 @@ told-once ns m once names =
     let back : length (elements m) ≤ length ns = at-most (elements m) ns (elements-distinct 0 m) (λ q i. among-in q ns (names q ∙ element-has m q i)) in
     let long = length-elements 0 m in
     omega arith
+
+-- sets that have the same numbers have the same elements, whatever their ranges
+pub elements-same : (from : ℕ) (m k : List Bool) → ((j : ℕ) → has m j ≡ has k j) → elementsFrom from m ≡ elementsFrom from k
+elements-same from [] [] e = refl
+elements-same from [] (true ∷ k) e = absurd (false≢true (e 0))
+elements-same from [] (false ∷ k) e = elements-same (from + 1) [] k (λ j. e (suc j))
+elements-same from (true ∷ m) [] e = absurd (true≢false (e 0))
+elements-same from (false ∷ m) [] e = elements-same (from + 1) m [] (λ j. e (suc j))
+elements-same from (true ∷ m) (true ∷ k) e = ap (λ l. from ∷ l) (elements-same (from + 1) m k (λ j. e (suc j)))
+elements-same from (true ∷ m) (false ∷ k) e = absurd (true≢false (e 0))
+elements-same from (false ∷ m) (true ∷ k) e = absurd (false≢true (e 0))
+elements-same from (false ∷ m) (false ∷ k) e = elements-same (from + 1) m k (λ j. e (suc j))

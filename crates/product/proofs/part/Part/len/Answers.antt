@@ -8,4 +8,7 @@ use Rattle.product.proofs.part.Part.len.Needs as need
 pub returns : need.returns
 returns c =
     let p = c .args .self .now in
-    c .count-of-ones .ensures ∙ sym (length-map (elements (ones (p .word))) (λ x. p .first + x * p .step))
+    record {
+      value = c .count-of-ones .ensures .value ∙ sym (length-map (elements (ones (p .word))) (λ x. p .first + x * p .step));
+      bound = c .count-of-ones .ensures .bound;
+    }

@@ -39,7 +39,7 @@ returns-in-Some c =
     let l = elements (ones (p .word)) in
     let f = found c in
     let at : p .first + c .in-Some .x * p .step ≡ getD (partTold p) (c .args .k) 0 =
-      ap (λ x. p .first + x * p .step) (f .1) ∙ sym (getD-map (λ x. p .first + x * p .step) l (c .args .k) 0 0 (f .0)) in
+    ap (λ x. p .first + x * p .step) (f .1) ∙ sym (getD-map (λ x. p .first + x * p .step) l (c .args .k) 0 0 (f .0)) in
     ap (λ x. Some x) at ∙ in-range _ _ (lt-ltb (c .args .k) (length (partTold p)) (omega (arith, f .0, told-length p)))
 
 pub returns-in-None : need.returns-in-None

@@ -15,10 +15,25 @@ words-requires c κs =
 pub ghost-result : need.ghost-result
 ghost-result c =
     let r = size-inside (c .args .rows) (sym (c .if-size-outside .ensures tt)) in
-    let n = size-inside (c .args .columns) (sym (c .if-size-outside-2 .ensures tt)) in
-    (r .0, (r .1, (n .0, (n .1, (
-      λ a b. c .words .ensures .rows a b ∙ sym (c .words .ensures .columns a b), (
-      λ a b e. marked-inside (c .args .rows) (c .args .columns) (c .args .places .now) (sym (c .if-some-outside .ensures tt)) a b (sym (c .words .ensures .rows a b) ∙ e), tt))))))
+    let n = size-inside (c .args .columns) (sym (c .if-size-outside-2 .ensures tt)) in (
+      r .0,
+      (
+        r .1,
+        (
+          n .0,
+          (
+            n .1,
+            (
+              λ a b. c .words .ensures .rows a b ∙ sym (c .words .ensures .columns a b),
+              (
+                λ a b e. marked-inside (c .args .rows) (c .args .columns) (c .args .places .now) (sym (c .if-some-outside .ensures tt)) a b (sym (c .words .ensures .rows a b) ∙ e),
+                tt,
+              ),
+            ),
+          ),
+        ),
+      ),
+    )
 
 pub returns : need.returns
 unfolding meaning-of told-of

@@ -34,9 +34,9 @@ loop-p-again c =
     record {
       by-row = λ a b. c .mark .ensures a b ∙ ap (λ t. (eqb a (p .row) && eqb b (p .column)) || t) (c .loop-p .inv .by-row a b) ∙ sym (marked-more a b l i (c .loop-p-test .taken));
       by-column = λ a b. c .mark-in-loop-p .ensures b a
-        ∙ ap (λ t. (eqb b (p .column) && eqb a (p .row)) || t) (c .loop-p .inv .by-column a b)
-        ∙ ap (λ t. t || marked a b (take i l)) (and-comm (eqb b (p .column)) (eqb a (p .row)))
-        ∙ sym (marked-more a b l i (c .loop-p-test .taken));
+          ∙ ap (λ t. (eqb b (p .column) && eqb a (p .row)) || t) (c .loop-p .inv .by-column a b)
+          ∙ ap (λ t. t || marked a b (take i l)) (and-comm (eqb b (p .column)) (eqb a (p .row)))
+          ∙ sym (marked-more a b l i (c .loop-p-test .taken));
     }
 
 pub returns : need.returns

@@ -16,3 +16,6 @@ joined-counting-more f start now next k e w = w ∙ ap (λ l. l ++ f k) e ∙ jo
 
 pub three : (a b c d x y z : List ℕ) → b ≡ a ++ x → c ≡ b ++ y → d ≡ c ++ z → d ≡ a ++ (x ++ (y ++ z))
 three a b c d x y z p q r = r ∙ ap (λ l. l ++ z) (q ∙ ap (λ l. l ++ y) p) ∙ append-assoc (a ++ x) y z ∙ append-assoc a x (y ++ z)
+
+pub five : (a b c d e f v w x y z : List ℕ) → b ≡ a ++ v → c ≡ b ++ w → d ≡ c ++ x → e ≡ d ++ y → f ≡ e ++ z → f ≡ a ++ (v ++ (w ++ (x ++ (y ++ z))))
+five a b c d e f v w x y z p q r s t = three c d e f x y z r s t ∙ ap (λ l. l ++ (x ++ (y ++ z))) (q ∙ ap (λ l. l ++ w) p) ∙ append-assoc (a ++ v) w (x ++ (y ++ z)) ∙ append-assoc a v (w ++ (x ++ (y ++ z)))

@@ -1,13 +1,19 @@
 -- The whole list of names, and the line for a refusal.
-use mathlib.Core.List.{List, _++_}
-use Prim.Native.Nat.{ℕ, _+_, _*_}
+use mathlib.Core.Bool.{cond}
+use mathlib.Core.List.{List, _++_, map}
+use Prim.Native.Nat.{ℕ, _+_, _-_, _*_, _/_, _%_}
 use lib.Chars.{codes}
+use lib.Dec.{eqb, ltb}
+use lib.ListN.{length, getD}
+use Rattle.std.specs.Iters.{counting}
 use Rattle.std.specs.Written.{decimal}
 use Rattle.std.specs.declared.option.Option.{Option}
 use Rattle.std.specs.declared.option.Option.the-variants.{Some, None}
 use Rattle.terms.specs.declared.row.Row.{Row}
 use Rattle.terms.specs.declared.refusal.Refusal.{Refusal}
+use Rattle.terms.specs.declared.refusal.Refusal.the-variants.{WrongEnd, OutsideLimits}
 use Rattle.terms.specs.Refusals.{number, wording}
+use Rattle.product.specs.declared.place.Place.{Place}
 use Rattle.naming.specs.declared.kind.Kind.the-variants.{Checks, Generators}
 use Rattle.naming.specs.Lines.{qubitLines, rowLines}
 
@@ -26,3 +32,14 @@ numberText None = codes ""
 
 abbrev pub refusalText : Refusal → List ℕ
 refusalText f = codes "refused" ++ (numberText (number f) ++ (codes ": " ++ (wording f ++ codes "\n")))
+
+-- Arguments of the program: the numbers of rows and columns, and then row and column of each one.
+-- Too few of them are an early end, and a row without its column is a count outside its limits.
+abbrev pub placeAt : List ℕ → ℕ → Place
+placeAt numbers k = record { row = getD numbers (2 * k + 2) 0; column = getD numbers (2 * k + 3) 0 }
+
+abbrev pub placesOf : List ℕ → List Place
+placesOf numbers = map (placeAt numbers) (counting 0 ((length numbers - 2) / 2))
+
+abbrev pub countFault : List ℕ → Option Refusal
+countFault numbers = cond (ltb (length numbers) 2) (Some WrongEnd) (cond (eqb (length numbers % 2) 1) (Some OutsideLimits) None)

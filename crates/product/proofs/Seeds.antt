@@ -107,3 +107,21 @@ pub seed-taken : (r n : ℕ) (l : List Place) → sizeOutside r ≡ false → si
 seed-taken r n l p q o e =
     ap (λ t. cond t (Some OutsideLimits) (cond (risingFrom None l) None (Some NotRising))) (or-neither (sizeOutside r) (sizeOutside n || someOutside r n l) p (or-neither (sizeOutside n) (someOutside r n l) q o))
     ∙ ap (λ t. cond t None (Some NotRising)) e
+
+-- the other way round
+pub record Taken (r n : ℕ) : Type 0 where
+  pub rows : (1 ≤ r) × (r ≤ 32)
+  pub columns : (1 ≤ n) × (n ≤ 32)
+
+pub taken-sizes : (r n : ℕ) (l : List Place) → seedFault r n l ≡ None → Taken r n
+taken-sizes r n l e = go (either (sizeOutside r || (sizeOutside n || someOutside r n l)))
+  where
+    go : ((sizeOutside r || (sizeOutside n || someOutside r n l)) ≡ true) ⊎ ((sizeOutside r || (sizeOutside n || someOutside r n l)) ≡ false) → Taken r n
+    go (inl t) =
+        let f : Some OutsideLimits ≡ None = ap (λ b. cond b (Some OutsideLimits) (cond (risingFrom None l) None (Some NotRising))) (sym t) ∙ e in
+        let z : _≡_ {A = ℕ} 0 1 = cc in
+        absurd (omega arith)
+    go (inr t) =
+        let o = or-none (sizeOutside r) (sizeOutside n || someOutside r n l) t in
+        let q = or-none (sizeOutside n) (someOutside r n l) (o .1) in
+        record { rows = size-inside r (o .0); columns = size-inside n (q .0) }

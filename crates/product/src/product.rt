@@ -4,6 +4,8 @@ ghost use mathlib.Core.Bool.{true};
 ghost use Prim.Native.Nat.{ℕ, _<_, _≤_};
 ghost use Rattle.product.specs.Words.{oneAt};
 
+pub use answers::ProductCode;
+
 mod answers;
 mod make;
 

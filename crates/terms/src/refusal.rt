@@ -4,6 +4,7 @@ ghost use Rattle.terms.specs.Refusals.{number, wording};
 ghost use Rattle.terms.specs.declared.refusal.Refusal.the-variants.{NoMemory};
 use std::alloc::AllocError;
 use std::alloc::Refused;
+use std::fmt;
 
 /// Why a call was turned down. Up to `ScratchNotZero` the input is at fault, after that the state; `NoMemory` is neither, and has no number.
 #[derive(Clone, Copy, PartialEq, Eq, Debug)]
@@ -81,8 +82,8 @@ impl Refusal {
             Refusal::OutsideLimits =>
                 "a size, side, seed place, switch sum or section count is outside its limits",
             Refusal::LawFails => "a check and a generator share an odd number of qubits",
-            Refusal::NotAwaited => "the file has something else than what is awaited here",
-            Refusal::WrongEnd => "the file ends early or goes on after its last section",
+            Refusal::NotAwaited => "something else is awaited here",
+            Refusal::WrongEnd => "the input ends early, or goes on after its end",
             Refusal::FileTooLong => "the file is too long",
             Refusal::ScratchNotZero => "a scratch byte in use is not zero",
             Refusal::NotDangling => "the check is closed or does not hold exactly one erased qubit",
@@ -114,6 +115,15 @@ pub impl<T: Drop> From<Refused<T>> for Refusal as RefusalFromRefused {
     ghost converts = { λ _ r. r ≡ NoMemory };
 
     fn from(_refused: Refused<T>) -> Refusal {
+        Refusal::NoMemory
+    }
+}
+
+/// A write into a `String` fails for want of memory only.
+pub impl From<fmt::Error> for Refusal as RefusalFromFmtError {
+    ghost converts = { λ _ r. r ≡ NoMemory };
+
+    fn from(_error: fmt::Error) -> Refusal {
         Refusal::NoMemory
     }
 }

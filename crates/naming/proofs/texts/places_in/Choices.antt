@@ -1,0 +1,11 @@
+use mathlib.Core.Path.{_≡_}
+use mathlib.Core.List.{List, map}
+use Prim.Native.Nat.{ℕ, _+_, _*_}
+use lib.ListN.{getD}
+use Rattle.std.specs.Iters.{counting}
+use Rattle.std.specs.Of.Vec.{vec-items}
+use Rattle.naming.specs.Texts.{placeAt}
+use Rattle.naming.proofs.texts.places_in.Given as given
+
+abbrev pub Inv-loop-k : given.InvT-loop-k
+Inv-loop-k l = vec-items (l .places) ≡ map (placeAt (l .numbers)) (counting 0 (l .k))

@@ -2,3 +2,5 @@ pub mod Bits
 pub mod Lists
 pub mod Sets
 pub mod Numbers
+pub mod Marks
+pub mod Any

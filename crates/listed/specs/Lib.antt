@@ -1,0 +1,4 @@
+pub mod Shares
+pub mod Fault
+pub mod OfListed
+pub mod Sound

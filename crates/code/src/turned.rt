@@ -7,7 +7,7 @@ use terms::row::Row;
 use terms::row::Side;
 
 /// Any code with checks and generators exchanged: it serves errors of the other type.
-#[derive(Clone, Copy)]
+#[derive(Drop)]
 pub struct Turned<C>(pub C);
 
 pub impl<C: Code> Code for Turned<C> as TurnedCode {

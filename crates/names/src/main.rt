@@ -18,7 +18,11 @@ fn main(rt: LibcRuntime) -> Result<(), AnyError> {
             Err(_) => all_numbers = false,
         }
     }
-    let listed = if all_numbers { list(heap, numbers.as_slice()) } else { Err(Refusal::NotAwaited) };
+    let listed = if all_numbers {
+        list(heap, numbers.as_slice())
+    } else {
+        Err(Refusal::NotAwaited)
+    };
     match listed {
         Ok(text) => {
             rt.print(text)?;

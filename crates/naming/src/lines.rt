@@ -60,7 +60,13 @@ fn append_row<C: Code>(out: &mut String, code: &C, kind: Kind, width: u16, k: u1
 }
 
 /// Appends the rows of one kind, which come in lines of the given width.
-pub(crate) fn append_rows<C: Code>(out: &mut String, code: &C, kind: Kind, width: u16, count: u16) -> fmt::Result
+pub(crate) fn append_rows<C: Code>(
+    out: &mut String,
+    code: &C,
+    kind: Kind,
+    width: u16,
+    count: u16,
+) -> fmt::Result
     requires { ⌜ ((k : ℕ) → k < count → isRow (meaning (now code)) (rowOf kind k) ≡ true) ⌝ ∗ ⌜ 1 ≤ width ⌝ }
     ensures { λ r. ⌜ made r (λ _. string-bytes (now (out .exit)) ≡ string-bytes (now (out .entry)) ++ rowLines (told (now (code .entry))) kind width count) ⌝ }
 {

@@ -60,7 +60,10 @@ fn append_names<C: Code>(out: &mut String, code: &C, rows: u16, columns: u16) ->
     let qubits = columns * columns + rows * rows;
     let checks = columns * rows;
     let generators = rows * columns;
-    write!(out, "printed {qubits} qubits, {checks} checks, {generators} generators\n")?;
+    write!(
+        out,
+        "printed {qubits} qubits, {checks} checks, {generators} generators\n"
+    )?;
     Ok(())
 }
 

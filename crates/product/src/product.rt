@@ -3,7 +3,6 @@ ghost use mathlib.Core.Path.{_≡_};
 ghost use mathlib.Core.Bool.{true};
 ghost use Prim.Native.Nat.{ℕ, _<_, _≤_};
 ghost use Rattle.product.specs.Words.{oneAt};
-
 pub use answers::ProductCode;
 
 mod answers;

@@ -1,0 +1,12 @@
+pub mod Algebra
+pub mod Insert
+pub mod Count
+pub mod All
+pub mod Least
+pub mod Free
+pub mod Sorted
+pub mod Absorb
+pub mod Order
+pub mod System
+pub mod Subsets
+pub mod Compress

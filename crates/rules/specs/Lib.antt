@@ -1,0 +1,15 @@
+pub mod Reports
+pub mod Systems
+pub mod States
+pub mod Clusters
+pub mod Refusing
+pub mod Calls
+pub mod Tallies
+pub mod CallLists
+pub mod Run
+pub mod Orders
+pub mod Moves
+pub mod Books
+pub mod Small
+pub mod Law
+pub mod Companions

@@ -15,7 +15,7 @@ use Rattle.meaning.specs.Meaning.{Meaning, Sound, qubits}
 use Rattle.rules.specs.States.{State}
 use Rattle.rules.specs.Clusters.{sameSide, otherSide, touched, spanned, again, grown, cluster, connecting, internal}
 use Rattle.rules.proofs.Solutions.{has-drop}
-use Rattle.rules.proofs.Sizes.{more-or-same, size-length, size-some}
+use Rattle.sets.proofs.Sizes.{more-or-same, size-length, size-some}
 
 pub has-map-in : (f : Bool → Bool) (m : List Bool) (i : ℕ) → i < length m → has (map f m) i ≡ f (has m i)
 has-map-in f [] i h = absurd (omega arith)

@@ -22,38 +22,13 @@ use Rattle.rules.specs.Calls.{held}
 use Rattle.rules.specs.CallLists.{after}
 use Rattle.rules.specs.Moves.{Move, Moves, stays, peels, prunes, solves, shelves, fails, sweeps, sweepFails, settles, arrived, moved, solveFrom, sweepFrom}
 use Rattle.rules.specs.Companions.{Counted, CountsStay}
-use Rattle.rules.proofs.Sizes.{size-some, size-less}
+use Rattle.sets.proofs.Sizes.{size-some, size-less, size-part, size-join}
 use Rattle.rules.proofs.Cluster.{cluster-long, cluster-erased}
 use Rattle.rules.proofs.Shelf.{shelvedBy, Good, Inv}
 use Rattle.rules.proofs.Steps.{held-long, in-product}
 use Rattle.rules.proofs.Calls.{after-moves}
 use Rattle.rules.proofs.Openings.{always}
 use Rattle.rules.proofs.Law.{Truth, live, move-truth, open-truth}
-
--- sizes of sets over the same range
-size-part : (a k : List Bool) → length a ≡ length k → ((i : ℕ) → has k i ≡ true → has a i ≡ true) → size (less a k) + size k ≡ size a
-size-part [] [] l h = refl
-size-part [] (y ∷ k) l h = absurd (omega arith)
-size-part (x ∷ a) [] l h = absurd (omega arith)
-size-part (x ∷ a) (y ∷ k) l h = let l′ : length a ≡ length k = omega arith in go x y (h 0) (size-part a k l′ (λ i. h (suc i)))
-  where
-    go : (x y : Bool) → (y ≡ true → x ≡ true) → size (less a k) + size k ≡ size a → size (less (x ∷ a) (y ∷ k)) + size (y ∷ k) ≡ size (x ∷ a)
-    go true true f e = omega arith
-    go true false f e = omega arith
-    go false true f e = absurd (false≢true (f refl))
-    go false false f e = e
-
-size-join : (a k : List Bool) → length a ≡ length k → size (join a k) ≤ size a + size k
-size-join [] [] l = omega arith
-size-join [] (y ∷ k) l = absurd (omega arith)
-size-join (x ∷ a) [] l = absurd (omega arith)
-size-join (x ∷ a) (y ∷ k) l = let l′ : length a ≡ length k = omega arith in go x y (size-join a k l′)
-  where
-    go : (x y : Bool) → size (join a k) ≤ size a + size k → size (join (x ∷ a) (y ∷ k)) ≤ size (x ∷ a) + size (y ∷ k)
-    go true true e = omega arith
-    go true false e = omega arith
-    go false true e = omega arith
-    go false false e = e
 
 -- a system has no more solutions than its unknowns have subsets
 length-subsets : (m : List Bool) → length (subsets m) ≡ 2 ^ size m

@@ -31,7 +31,7 @@ use Rattle.rules.specs.CallLists.{Call, Peel, Prune, Solve, Sweep, call}
 use Rattle.rules.specs.Moves.{solveFrom, sweepFrom, connects}
 use Rattle.rules.specs.Run.{firstThat, orElse, passedOver, on, onlyIf, peelable, allErased, prunable, canSolve, solvable, canSweep, sweepable, next}
 use Rattle.rules.proofs.Bars.{Clear, passed, allowed, stopped}
-use Rattle.rules.proofs.Sizes.{size-some, size-fewer, one-of, lowest-has}
+use Rattle.sets.proofs.Sizes.{size-some, size-fewer, one-of, lowest-has}
 use Rattle.rules.proofs.Cluster.{again-keeps}
 use Rattle.rules.proofs.Firsts.{some-is, never, or-else, only-if, as-call, first-that}
 

@@ -19,7 +19,7 @@ use Rattle.rules.specs.Companions.{RunsEmpty, FullRunEmpties}
 use Rattle.rules.proofs.Openings.{always}
 use Rattle.rules.proofs.Shelf.{shelvedBy, Inv}
 use Rattle.rules.proofs.Law.{live, after-truth}
-use Rattle.rules.proofs.Sizes.{size-within}
+use Rattle.sets.proofs.Sizes.{size-within}
 use Rattle.rules.proofs.Firsts.{never, or-none-else}
 use Rattle.rules.proofs.Fewer.{sweep-passes}
 use Rattle.rules.proofs.Turns.{run-ends-with}

@@ -15,7 +15,6 @@ pub mod Law
 pub mod Least
 pub mod Reached
 pub mod Runs
-pub mod Sizes
 pub mod Firsts
 pub mod Fewer
 pub mod Turns

@@ -3,11 +3,11 @@ use mathlib.Core.Path.{_≡_, sym, ap, _∙_, subst}
 use mathlib.Core.Bool.{true, false}
 use mathlib.Core.List.{List, [], _∷_}
 use Prim.Native.Nat.{ℕ, _+_}
-use lib.ListN.{length, length-replicate, length-set}
+use lib.ListN.{length}
 use Rattle.std.specs.declared.result.Result.{Result}
 use Rattle.std.specs.declared.result.Result.the-variants.{Ok, Err}
 use Rattle.terms.specs.declared.refusal.Refusal.{Refusal}
-use Rattle.sets.specs.Sets.{marks}
+use Rattle.sets.proofs.Marks.{length-marks}
 use Rattle.meaning.specs.Meaning.{Meaning, Sound, qubits}
 use Rattle.rules.specs.Reports.{Report, report, For}
 use Rattle.rules.specs.States.{State, opening}
@@ -15,10 +15,6 @@ use Rattle.rules.specs.Tallies.{Tally, Opened, oneMore, openBars, openTrial}
 use Rattle.rules.specs.CallLists.{Call, after}
 use Rattle.rules.specs.Law.{Always}
 use Rattle.rules.proofs.Bars.{passed, accepted}
-
-length-marks : (n : ℕ) (l : List ℕ) → length (marks n l) ≡ n
-length-marks n [] = length-replicate n false
-length-marks n (k ∷ l) = length-set (marks n l) k true ∙ length-marks n l
 
 pub report-for : (M : Meaning) (lost odds : List ℕ) → For M (report M lost odds)
 report-for M lost odds = record { lost-range = length-marks (qubits M) lost; odds-range = length-marks (length (M .checks)) odds }

@@ -25,7 +25,7 @@ use Rattle.rules.proofs.Solutions.{of-solutions, in-solutions}
 use Rattle.rules.proofs.Core.{core-cong, core-flip, hopeless}
 use Rattle.rules.proofs.Shelf.{closedBy, shelvedBy, Firm, leftOf, kept-cong, Inv, inv-finish, inv-fill}
 use Rattle.rules.proofs.Cluster.{is-touched, of-touched, cluster-long, cluster-erased, internal-apart}
-use Rattle.rules.proofs.Sizes.{one-only, lowest-has}
+use Rattle.sets.proofs.Sizes.{one-only, lowest-has}
 use Rattle.rules.proofs.Steps.{many, touched-long, even-open}
 
 module _ (M : Meaning) (sound : Sound M) (R : Report) (for : For M R) (s : State) (h : Inv M sound R for s) where

@@ -26,7 +26,7 @@ use Rattle.rules.proofs.Core.{core-flip, hopeless}
 use Rattle.rules.proofs.Prune.{core-prune}
 use Rattle.rules.proofs.Shelf.{leftOf, Inv, inv-finish, inv-fill}
 use Rattle.rules.proofs.Cluster.{is-touched, of-touched}
-use Rattle.rules.proofs.Sizes.{one-of}
+use Rattle.sets.proofs.Sizes.{one-of}
 
 -- as many solutions as the slack says
 pub many : (n : ℕ) (C : List (List Bool)) (K A s : List Bool) (k : length K ≡ n) (a : length A ≡ length C) → ((c : List Bool) → In c C → length c ≡ n) → (z : List Bool) → In z (solutions C K A s)

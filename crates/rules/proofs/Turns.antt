@@ -34,7 +34,7 @@ use Rattle.rules.proofs.Openings.{always}
 use Rattle.rules.proofs.Shelf.{Inv}
 use Rattle.rules.proofs.Settle.{settle-some}
 use Rattle.rules.proofs.Law.{Truth, live, move-truth, after-truth}
-use Rattle.rules.proofs.Sizes.{size-length, size-zero}
+use Rattle.sets.proofs.Sizes.{size-length, size-zero}
 use Rattle.rules.proofs.Fewer.{Clean, next-fewer}
 
 some-entry : (l : List Entry) (e : Entry) (m : List Entry) → l ≡ e ∷ m → eqb (length l) 0 ≡ false

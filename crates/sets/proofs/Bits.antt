@@ -18,6 +18,12 @@ and-both false b e = absurd (false≢true e)
 pub and-pair : {a b : Bool} → a ≡ true → b ≡ true → (a && b) ≡ true
 and-pair {a} {b} p q = ap (λ t. t && b) p ∙ q
 
+pub and-comm : (a b : Bool) → (a && b) ≡ (b && a)
+and-comm true true = refl
+and-comm true false = refl
+and-comm false true = refl
+and-comm false false = refl
+
 pub or-cases : (a b : Bool) → (a || b) ≡ true → (a ≡ true) ⊎ (b ≡ true)
 or-cases true b e = inl refl
 or-cases false b e = inr e

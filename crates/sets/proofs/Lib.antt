@@ -4,3 +4,4 @@ pub mod Sets
 pub mod Numbers
 pub mod Marks
 pub mod Any
+pub mod Sizes

@@ -11,7 +11,7 @@ use Rattle.sets.specs.Bits.{flip}
 use Rattle.sets.specs.Lists.{In}
 use Rattle.sets.specs.Sets.{has, row, over, join, meet, less, plus, empty, only, any, meets, within, holders, odd}
 use Rattle.sets.proofs.Lists.{in-getD}
-use Rattle.sets.proofs.Bits.{either, clash, and-both, and-pair, or-cases, or-left, or-right, or-none, deny, and-flip, flip-four, flip-false, flip-assoc}
+use Rattle.sets.proofs.Bits.{either, clash, and-both, and-comm, and-pair, or-cases, or-left, or-right, or-none, deny, and-flip, flip-four, flip-false, flip-assoc}
 
 pub has-map : (f : Bool → Bool) → f false ≡ false → (m : List Bool) (k : ℕ) → has (map f m) k ≡ f (has m k)
 has-map f z [] k = sym z
@@ -220,13 +220,7 @@ odd-only c n k h = elim (either (has c k)) [
 pub odd-comm : (c x : List Bool) → odd c x ≡ odd x c
 odd-comm [] x = odd-nil x ∙ sym (odd-none x)
 odd-comm (b ∷ c) [] = refl
-odd-comm (b ∷ c) (x ∷ xs) = ap (λ t. flip t (odd c xs)) (and-swap b x) ∙ ap (flip (x && b)) (odd-comm c xs)
-  where
-    and-swap : (a b : Bool) → (a && b) ≡ (b && a)
-    and-swap true true = refl
-    and-swap true false = refl
-    and-swap false true = refl
-    and-swap false false = refl
+odd-comm (b ∷ c) (x ∷ xs) = ap (λ t. flip t (odd c xs)) (and-comm b x) ∙ ap (flip (x && b)) (odd-comm c xs)
 
 pub odd-append : (a b c d : List Bool) → length a ≡ length c → odd (a ++ b) (c ++ d) ≡ flip (odd a c) (odd b d)
 odd-append [] b [] d l = refl

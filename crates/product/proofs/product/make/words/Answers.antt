@@ -1,19 +1,14 @@
 use mathlib.Core.Path.{_≡_, refl, sym, ap, _∙_}
-use mathlib.Core.Bool.{Bool, true, false, _&&_, _||_}
+use mathlib.Core.Bool.{_&&_, _||_}
 use Prim.Native.Nat.{ℕ, _<_}
 use native.Mathlib.Omega.{arith}
 use lib.Dec.{eqb}
 use lib.ListN.{getD, take}
 use Rattle.std.proofs.shelf.Lists.{take-all}
+use Rattle.sets.proofs.Bits.{and-comm}
 use Rattle.product.specs.Seed.{marked}
 use Rattle.product.proofs.Seeds.{origin, inside-at, marked-more, no-ones}
 use Rattle.product.proofs.product.make.words.Needs as need
-
-and-comm : (x y : Bool) → (x && y) ≡ (y && x)
-and-comm true true = refl
-and-comm true false = refl
-and-comm false true = refl
-and-comm false false = refl
 
 pub loop-p-holds : need.loop-p-holds
 loop-p-holds c = record { by-row = λ a b. no-ones 32 a b; by-column = λ a b. no-ones 32 b a }

@@ -3,10 +3,10 @@ use mathlib.Core.Path.{_≡_, refl, sym, ap, _∙_}
 use mathlib.Core.Logic.{_⊎_, inl, inr}
 use mathlib.Core.Bool.{Bool, true, false, not, _&&_, true≢false, false≢true}
 use mathlib.Core.List.{List, [], _∷_, map}
-use Prim.Native.Nat.{ℕ, zero, suc, _<_, _≤_}
+use Prim.Native.Nat.{ℕ, zero, suc, _+_, _<_, _≤_}
 use native.Mathlib.Omega.{arith}
 use lib.ListN.{length}
-use Rattle.sets.specs.Sets.{has, less, any, size, sizeIf, lowest}
+use Rattle.sets.specs.Sets.{has, join, less, any, size, sizeIf, lowest}
 
 pub size-length : (m : List Bool) → size m ≤ length m
 size-length [] = omega arith
@@ -94,3 +94,28 @@ pub lowest-has : (m : List Bool) → any m ≡ true → has m (lowest m) ≡ tru
 lowest-has [] e = absurd (false≢true e)
 lowest-has (true ∷ m) e = refl
 lowest-has (false ∷ m) e = lowest-has m e
+
+-- sizes of sets over the same range
+pub size-part : (a k : List Bool) → length a ≡ length k → ((i : ℕ) → has k i ≡ true → has a i ≡ true) → size (less a k) + size k ≡ size a
+size-part [] [] l h = refl
+size-part [] (y ∷ k) l h = absurd (omega arith)
+size-part (x ∷ a) [] l h = absurd (omega arith)
+size-part (x ∷ a) (y ∷ k) l h = let l′ : length a ≡ length k = omega arith in go x y (h 0) (size-part a k l′ (λ i. h (suc i)))
+  where
+    go : (x y : Bool) → (y ≡ true → x ≡ true) → size (less a k) + size k ≡ size a → size (less (x ∷ a) (y ∷ k)) + size (y ∷ k) ≡ size (x ∷ a)
+    go true true f e = omega arith
+    go true false f e = omega arith
+    go false true f e = absurd (false≢true (f refl))
+    go false false f e = e
+
+pub size-join : (a k : List Bool) → length a ≡ length k → size (join a k) ≤ size a + size k
+size-join [] [] l = omega arith
+size-join [] (y ∷ k) l = absurd (omega arith)
+size-join (x ∷ a) [] l = absurd (omega arith)
+size-join (x ∷ a) (y ∷ k) l = let l′ : length a ≡ length k = omega arith in go x y (size-join a k l′)
+  where
+    go : (x y : Bool) → size (join a k) ≤ size a + size k → size (join (x ∷ a) (y ∷ k)) ≤ size (x ∷ a) + size (y ∷ k)
+    go true true e = omega arith
+    go true false e = omega arith
+    go false true e = omega arith
+    go false false e = e

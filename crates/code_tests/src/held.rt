@@ -17,7 +17,7 @@ use terms::row::Row;
 use terms::row::Side;
 
 #[derive(Drop)]
-pub enum Held {
+pub(crate) enum Held {
     Nothing,
     Product(Product),
     TurnedProduct(Turned<Product>),
@@ -27,7 +27,7 @@ pub enum Held {
 
 impl Held {
     /// The code after the question, and the answer.
-    pub fn play(self, heap: Global, question: &Question) -> Result<(Held, String), AllocError> {
+    pub(crate) fn play(self, heap: Global, question: &Question) -> Result<(Held, String), AllocError> {
         let made = match question.word.as_str() {
             "product" => Some(product_of(heap, question.numbers.as_slice())?),
             "listed" => Some(listed_of(heap, question.numbers.as_slice())?),

@@ -4,13 +4,13 @@ use std::alloc::Global;
 
 /// A word and the numbers after it.
 #[derive(Drop)]
-pub struct Question {
-    pub word: String,
-    pub numbers: Vec<u16>,
+pub(crate) struct Question {
+    pub(crate) word: String,
+    pub(crate) numbers: Vec<u16>,
 }
 
 impl Question {
-    pub fn read(heap: Global, line: &str) -> Result<Question, AllocError> {
+    pub(crate) fn read(heap: Global, line: &str) -> Result<Question, AllocError> {
         let mut word = String::new(heap);
         let mut numbers = Vec::new(heap);
         for token in line.split_whitespace() {
@@ -25,17 +25,17 @@ impl Question {
 
 /// Numbers read one after the other; past the end each is 0.
 #[derive(Drop)]
-pub struct Numbers<'a> {
+pub(crate) struct Numbers<'a> {
     numbers: &'a [u16],
     next: usize,
 }
 
 impl<'a> Numbers<'a> {
-    pub fn new(numbers: &'a [u16]) -> Numbers<'a> {
+    pub(crate) fn new(numbers: &'a [u16]) -> Numbers<'a> {
         Numbers { numbers, next: 0 }
     }
 
-    pub fn next(&mut self) -> u16 {
+    pub(crate) fn next(&mut self) -> u16 {
         if self.next >= self.numbers.len() {
             return 0;
         }

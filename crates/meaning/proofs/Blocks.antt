@@ -1,21 +1,20 @@
 -- A grid of m lines of w places, read line after line: which of its places a set of one line, or of one place in several lines, has.
 use mathlib.Core.Path.{_≡_, refl, sym, ap, _∙_, subst}
-use mathlib.Core.Logic.{_⊎_, inl, inr}
-use mathlib.Core.Bool.{Bool, true, false, cond, _&&_, false≢true}
-use mathlib.Core.List.{List, [], _∷_, _++_, map}
-use Prim.Native.Nat.{ℕ, zero, suc, _+_, _*_, _/_, _%_, _<_, _≤_}
+use mathlib.Core.Bool.{Bool, true, false, cond, false≢true}
+use mathlib.Core.List.{List, _++_, map}
+use Prim.Native.Nat.{ℕ, zero, suc, _+_, _*_, _/_, _%_, _<_}
 use native.Mathlib.Omega.{arith}
 use native.Mathlib.Nat.{zero-mul, suc-mul}
 use lib.Dec.{eqb}
 use lib.ListN.{length, getD, length-replicate}
 use borrow.Author.Tests.{eqb-true}
 use Rattle.std.specs.Iters.{counting}
-use Rattle.std.proofs.shelf.Bits.{div-add-mod', div-below, mod-below, mul-add-lt}
+use Rattle.std.proofs.shelf.Bits.{div-add-mod', div-below, mod-below}
 use Rattle.std.proofs.shelf.Counted.{length-counting}
 use Rattle.std.proofs.shelf.Lists.{getD-append-left, getD-append-add}
 use Rattle.sets.specs.Lists.{In, flat}
 use Rattle.sets.specs.Sets.{has, empty, only, elements, among}
-use Rattle.sets.proofs.Bits.{either, same}
+use Rattle.sets.proofs.Bits.{same}
 use Rattle.sets.proofs.Lists.{in-map, of-map, length-flat}
 use Rattle.sets.proofs.Sets.{has-empty, has-below, only-self, only-other, length-only}
 use Rattle.sets.proofs.Numbers.{eqb-same, in-among, among-in, has-element, element-has}

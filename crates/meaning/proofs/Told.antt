@@ -1,28 +1,26 @@
 -- The stated order of a product code's rows names every qubit of a row, each once.
 use mathlib.Core.Path.{_≡_, refl, sym, ap, _∙_, subst}
-use mathlib.Core.Logic.{_⊎_, inl, inr}
-use mathlib.Core.Bool.{Bool, true, false, cond, _||_}
-use mathlib.Core.List.{List, [], _∷_, _++_, map, map-map}
-use Prim.Native.Nat.{ℕ, zero, suc, _+_, _-_, _*_, _/_, _%_, _<_, _≤_}
+use mathlib.Core.Logic.{inl, inr}
+use mathlib.Core.Bool.{Bool, true, false}
+use mathlib.Core.List.{List, [], _++_, map}
+use Prim.Native.Nat.{ℕ, _+_, _-_, _*_, _/_, _%_, _<_}
 use native.Mathlib.Omega.{arith}
-use lib.Dec.{eqb}
-use lib.ListN.{length, getD, length-map}
+use lib.ListN.{length, length-map}
 use borrow.Author.Tests.{ltb-true}
 use Rattle.std.specs.Iters.{counting}
-use Rattle.std.proofs.shelf.Bits.{div-add-mod', div-below, mod-below, mul-add-lt, div-mul-add}
+use Rattle.std.proofs.shelf.Bits.{div-add-mod', div-below, mod-below, div-mul-add}
 use Rattle.std.proofs.shelf.Counted.{length-counting, getD-map-counting}
 use Rattle.std.proofs.shelf.Lists.{getD-append-left, getD-append-add}
 use Rattle.std.proofs.shelf.Tests.{cases-lt}
 use Rattle.terms.specs.declared.row.Row.{Row}
 use Rattle.terms.specs.declared.row.Row.the-variants.{Check, Generator}
 use Rattle.sets.specs.Lists.{In, Distinct, flat}
-use Rattle.sets.specs.Sets.{has, row, empty, only, elements, among, repeats}
-use Rattle.sets.proofs.Bits.{same, or-none, or-left, or-right, or-cases}
+use Rattle.sets.specs.Sets.{has, row, elements, among, repeats}
+use Rattle.sets.proofs.Bits.{same}
 use Rattle.sets.proofs.Lists.{in-map, of-map, in-cases, in-left, in-right, distinct-append, distinct-map}
 use Rattle.sets.proofs.Sets.{has-below}
-use Rattle.sets.proofs.Numbers.{in-among, among-in, has-element, element-has, elements-distinct, distinct-repeats}
-use Rattle.meaning.specs.Meaning.{qubits}
-use Rattle.meaning.specs.Telling.{Tells, isRow, rowSet}
+use Rattle.sets.proofs.Numbers.{in-among, among-in, elements-distinct, distinct-repeats}
+use Rattle.meaning.specs.Telling.{isRow, rowSet}
 use Rattle.meaning.specs.Product.{column, checkAt, generatorAt, checkTold, generatorTold, productCode, productTold}
 use Rattle.meaning.specs.Codes.{Seed, ProductTells}
 use Rattle.meaning.proofs.Blocks.{getD-flat, line-told, length-line, comb-told, length-comb}

@@ -1,7 +1,7 @@
 -- The product code of a seed: a matrix H of bits with r rows and n columns, given by its rows.
 -- Rows of the seed are numbered a and a′, its columns b and b′, from 0.
 use mathlib.Core.Bool.{Bool, true, false, cond}
-use mathlib.Core.List.{List, [], _++_, map}
+use mathlib.Core.List.{List, _++_, map}
 use Prim.Native.Nat.{ℕ, _+_, _*_, _/_, _%_}
 use lib.Dec.{eqb}
 use lib.ListN.{replicate}

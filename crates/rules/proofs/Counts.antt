@@ -1,6 +1,6 @@
 -- What is counted was lost: peeled, pruned and chosen, with what is still erased or shelved, are no more than the lost qubits.
 use mathlib.Core.Path.{_≡_, refl, sym, ap, _∙_, subst}
-use mathlib.Core.Bool.{Bool, true, false, false≢true}
+use mathlib.Core.Bool.{Bool, true, false}
 use mathlib.Core.List.{List, [], _∷_, map}
 use Prim.Native.Nat.{ℕ, zero, suc, _+_, _/_, _^_, _<_, _≤_}
 use native.Mathlib.Omega.{arith}
@@ -8,7 +8,7 @@ use native.Mathlib.Nat.{two-pow-succ}
 use lib.Dec.{leb}
 use lib.ListN.{length, length-append, length-map}
 use borrow.Author.Tests.{leb-false}
-use Rattle.sets.specs.Sets.{has, row, less, join, only, empty, size}
+use Rattle.sets.specs.Sets.{has, row, less, only, empty, size}
 use Rattle.sets.proofs.Bits.{and-both, or-left}
 use Rattle.sets.proofs.Sets.{has-meet, has-below, only-other, only-self, length-only}
 use Rattle.meaning.specs.Meaning.{Meaning, Sound, qubits}

@@ -1,19 +1,19 @@
 -- Tests on numbers, counted lists, and lists of numbers: what they name, and how often.
 use mathlib.Core.Path.{_≡_, refl, sym, ap, _∙_, subst}
 use mathlib.Core.Logic.{_⊎_, inl, inr}
-use mathlib.Core.Bool.{Bool, true, false, _||_, true≢false, false≢true}
-use mathlib.Core.List.{List, [], _∷_, _++_, map}
+use mathlib.Core.Bool.{Bool, true, false, true≢false, false≢true}
+use mathlib.Core.List.{List, [], _∷_}
 use Prim.Native.Nat.{ℕ, zero, suc, _+_, _<_, _≤_}
 use native.Mathlib.Omega.{arith}
 use lib.Dec.{eqb}
 use lib.ListN.{length}
-use borrow.Author.Tests.{eq-eqb, eqb-true, ne-eqb}
+use borrow.Author.Tests.{eq-eqb, eqb-true}
 use Rattle.std.specs.Iters.{counting}
 use Rattle.sets.specs.Lists.{In, Distinct}
-use Rattle.sets.specs.Sets.{has, size, sizeIf, elementsFrom, elements, among, repeats}
+use Rattle.sets.specs.Sets.{has, size, elementsFrom, elements, among, repeats}
 use Rattle.sets.specs.Counts.{ToldOnce}
-use Rattle.sets.proofs.Bits.{clash, deny, same, or-cases, or-left, or-right, or-none, or-neither}
-use Rattle.sets.proofs.Lists.{in-cases, in-left, in-right, at-most}
+use Rattle.sets.proofs.Bits.{clash, deny, or-cases, or-left, or-right, or-none, or-neither}
+use Rattle.sets.proofs.Lists.{at-most}
 
 pub eqb-same : (a : ℕ) → eqb a a ≡ true
 eqb-same a = eq-eqb a a refl

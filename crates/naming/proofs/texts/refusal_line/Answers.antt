@@ -1,10 +1,7 @@
-use mathlib.Core.Path.{_≡_, sym, ap, _∙_}
-use mathlib.Core.List.{List, _++_}
-use Prim.Native.Nat.{ℕ}
+use mathlib.Core.Path.{_≡_, ap}
+use mathlib.Core.List.{_++_}
 use lib.Chars.{codes}
 use borrow.Author.Needs.{needs}
-use Rattle.std.specs.Of.String.{string-bytes}
-use Rattle.std.specs.Vec.{made}
 use Rattle.terms.specs.Refusals.{wording}
 use Rattle.naming.specs.Texts.{numberText, refusalText}
 use Rattle.naming.proofs.texts.refusal_line.Needs as need

@@ -1,9 +1,8 @@
 use mathlib.Core.Path.{_≡_, refl, sym, ap, _∙_}
-use Prim.Native.Nat.{ℕ, _<_, _≤_, _^_, _-_}
+use Prim.Native.Nat.{_<_, _-_}
 use native.Mathlib.Omega.{arith}
-use lib.Bits.{bitAnd, and-le-l}
-use lib.Dec.{ltb}
-use lib.ListN.{length, getD, drop}
+use lib.Bits.{and-le-l}
+use lib.ListN.{length, getD}
 use borrow.Author.Tests.{le-ltb, lt-ltb}
 use Rattle.std.specs.declared.option.Option.the-variants.{Some}
 use Rattle.sets.specs.Sets.{elements}

@@ -1,7 +1,6 @@
-use mathlib.Core.Path.{_≡_, ap, _∙_}
-use Prim.Native.Nat.{ℕ, _-_}
+use mathlib.Core.Path.{ap, _∙_}
+use Prim.Native.Nat.{_-_}
 use native.Mathlib.Omega.{arith}
-use lib.ListN.{length}
 use Rattle.meaning.proofs.Answered.{nth, nth-front, nth-back}
 use Rattle.product.specs.Parts.{partTold}
 use Rattle.product.proofs.part.Parts.qubit.Needs as need

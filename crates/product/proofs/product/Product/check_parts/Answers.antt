@@ -1,5 +1,4 @@
 use mathlib.Core.Path.{ap, _∙_}
-use Prim.Native.Nat.{_+_, _*_, _≤_}
 use native.Mathlib.Omega.{arith}
 use Rattle.product.specs.declared.part.Part.{Part}
 use Rattle.product.proofs.Entries.{check-parts, pairs-low}

@@ -1,9 +1,8 @@
-use mathlib.Core.Path.{_≡_, sym, ap, _∙_}
-use native.Mathlib.Omega.{arith}
+use mathlib.Core.Path.{sym, ap, _∙_}
 use Rattle.terms.proofs.Answering.{answers-ok}
 use Rattle.meaning.specs.Product.{productCode, productTold}
 use Rattle.product.specs.OfProduct.{meaning-of, told-of}
-use Rattle.product.specs.Seed.{matrix, seedOf, marked}
+use Rattle.product.specs.Seed.{matrix}
 use Rattle.product.proofs.Seeds.{outside-wider, marked-inside, size-inside, seed-taken}
 use Rattle.product.proofs.product.Product.new.Needs as need
 

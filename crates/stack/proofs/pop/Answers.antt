@@ -1,9 +1,9 @@
-use mathlib.Core.Path.{refl, _≡_, ap, _∙_, sym}
+use mathlib.Core.Path.{_≡_, ap, _∙_, sym}
 use mathlib.Core.Bool.{_&&_}
 use mathlib.Core.List.{[], _∷_, _++_}
 use Prim.Native.Nat.{_+_, _-_, _<_}
 use native.Mathlib.Omega.{arith}
-use lib.Dec.{ltb, leb}
+use lib.Dec.{leb}
 use lib.ListN.{take, length}
 use borrow.Author.Tests.{lt-ltb, le-leb}
 use Rattle.std.proofs.shelf.Lists.{take-more}

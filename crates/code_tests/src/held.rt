@@ -27,7 +27,11 @@ pub(crate) enum Held {
 
 impl Held {
     /// The code after the question, and the answer.
-    pub(crate) fn play(self, heap: Global, question: &Question) -> Result<(Held, String), AllocError> {
+    pub(crate) fn play(
+        self,
+        heap: Global,
+        question: &Question,
+    ) -> Result<(Held, String), AllocError> {
         let made = match question.word.as_str() {
             "product" => Some(product_of(heap, question.numbers.as_slice())?),
             "listed" => Some(listed_of(heap, question.numbers.as_slice())?),

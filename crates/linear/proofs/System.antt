@@ -118,11 +118,11 @@ module _ {F : Type 0} (K : Field F) where
       let e′ : length a ≡ length xs = omega arith in
       ap (add (mul c x)) (dot-snoc a xs b y e′) ∙ add-left-comm K (mul c x) (mul b y) (dot K a xs)
 
-  length-rev : {X : Type 0} (l : List X) → length (rev l) ≡ length l
+  pub length-rev : {X : Type 0} (l : List X) → length (rev l) ≡ length l
   length-rev [] = refl
   length-rev (x ∷ l) = length-append (rev l) (x ∷ []) ∙ omega (arith, length-rev l)
 
-  dot-rev : (a x : List F) → length a ≡ length x → dot K (rev a) (rev x) ≡ dot K a x
+  pub dot-rev : (a x : List F) → length a ≡ length x → dot K (rev a) (rev x) ≡ dot K a x
   dot-rev [] [] e = refl
   dot-rev [] (x ∷ xs) e = absurd (omega arith)
   dot-rev (c ∷ a) [] e = absurd (omega arith)
@@ -150,7 +150,7 @@ module _ {F : Type 0} (K : Field F) where
   rev-snoc [] a = refl
   rev-snoc (x ∷ l) a = ap (λ t. t ++ (x ∷ [])) (rev-snoc l a)
 
-  rev-rev : {X : Type 0} (l : List X) → rev (rev l) ≡ l
+  pub rev-rev : {X : Type 0} (l : List X) → rev (rev l) ≡ l
   rev-rev [] = refl
   rev-rev (x ∷ l) = rev-snoc (rev l) x ∙ ap (λ t. x ∷ t) (rev-rev l)
 

@@ -1,1 +1,4 @@
 pub mod Cuts
+pub mod Growing
+pub mod Laying
+pub mod Named

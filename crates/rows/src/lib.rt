@@ -5,6 +5,7 @@ ghost use Rattle.std.specs.Of.Vec.{vec-items};
 ghost use Rattle.rows.specs.Cut.{none};
 
 mod calls;
+mod crossing;
 
 /// Where a row stands among the places.
 #[derive(Clone, Copy)]
@@ -13,7 +14,7 @@ pub struct Span {
     len: usize,
 }
 
-/// Rows of numbers, in the order in which they were pushed. All rows share one block of memory.
+/// Rows of numbers. All rows share one block of memory.
 #[derive(Drop)]
 pub struct Rows {
     places: Vec<u16>,

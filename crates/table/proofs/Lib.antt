@@ -1,0 +1,5 @@
+pub mod Crossed
+pub mod Told
+pub mod Held
+pub mod Limits
+pub mod Steps

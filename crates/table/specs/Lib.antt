@@ -1,0 +1,4 @@
+pub mod Columns
+pub mod Held
+pub mod OfTable
+pub mod Stands

@@ -40,7 +40,7 @@ odd_set (b ∷ m) (y ∷ x) (suc q) h e =
     ∙ flip_assoc (has x q) (b && y) (odd m x)
 
 -- what a search of the list for a number answers
-pub contains_among : (l : List ℕ) (q : ℕ) (r : Bool) → IsAnyAnswer (λ k t. Decides t (k ≡ q)) l r → r ≡ among q l
+pub contains_among : (l : List ℕ) (q : ℕ) (r : Bool) → IsAnyAnswer (λ k t. eqb k q ≡ t) l r → r ≡ among q l
 contains_among l q r h =
     same_from_decides r (among q l) (contains_decides eqb Decides-eqb l q r h)
     (Decides-by_or (eqb q) (λ k. k ≡ q) (among q) (λ k. Decides-like (eqb q k) sym sym (Decides-eqb q k)) refl (λ _ _. refl) l)

@@ -10,8 +10,8 @@ loop-q-preserved c =
     let row = c.args.row.now in
     let i = c.loop-q.q-index in
     counted_then (λ q. times q (take i row)) (λ q. cond (eqb q (get_or row i 0)) 1 0) (λ q. times q (take (i + 1) row))
-    c.args.counts.now c.loop-q.counts c.count-one.new.counts (omega arith) (λ q. times_more row i q c.loop-q-test.true)
-    c.loop-q.invariant c.in-ok-count-one.ensures
+    c.args.counts.now c.loop-q.counts c.count_one.new.counts (omega arith) (λ q. times_more row i q c.loop-q-test.true)
+    c.loop-q.invariant c.in_ok-count_one.ensures
 
 pub returns : goal.returns
 returns c q h =

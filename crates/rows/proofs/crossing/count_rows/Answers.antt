@@ -10,6 +10,6 @@ loop-k-preserved c =
     let rows = rows_of c.args.rows.now in
     let k = c.loop-k.k in
     counted_then (λ q. length (namers rows q k)) (λ q. times q c.row.result.now) (λ q. length (namers rows q (k + 1)))
-    c.args.counts.now c.loop-k.counts c.count-row.new.counts (omega arith)
+    c.args.counts.now c.loop-k.counts c.count_row.new.counts (omega arith)
     (λ q. length_namers_more rows q k ∙ ap (λ l. length (namers rows q k) + times q l) (sym c.row.ensures))
-    c.loop-k.invariant c.in-ok-count-row.ensures
+    c.loop-k.invariant c.in_ok-count_row.ensures

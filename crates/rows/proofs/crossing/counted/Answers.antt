@@ -4,23 +4,23 @@ use Rattle.rows.specs.Crossing.{namers}
 use Rattle.rows.specs.Growing.{Counts}
 use Rattle.rows.specs.Read.{rows_of}
 use Rattle.rows.proofs.crossing.counted.Goals as goal
-use Rattle.rows.proofs.crossing.counted.Goals.{In-ok-count-rows}
+use Rattle.rows.proofs.crossing.counted.Goals.{In_ok-count_rows}
 
-module _ (c : In-ok-count-rows) where
+module _ (c : In_ok-count_rows) where
   abbrev n : ℕ
   n = c.args.columns
 
   -- the counts begin at 0
-  zeros : c.as-mut-slice.result.now ≡ replicate n 0
-  zeros = c.as-mut-slice.ensures.value ∙ c.in-ok-counts.ensures.items-if-clones-equal (λ y e. e)
+  zeros : c.as_mut_slice.result.now ≡ replicate n 0
+  zeros = c.as_mut_slice.ensures.value ∙ c.in_ok-counts.ensures.items-if-clones-equal (λ y e. e)
 
-  long : length c.as-mut-slice.result.now ≡ n
+  long : length c.as_mut_slice.result.now ≡ n
   long = ap length zeros ∙ length-replicate n 0
 
-  same : length c.count-rows.new.counts ≡ c.in-ok-counts.counts.len
-  same = omega (arith, long, c.in-ok-counts.ensures.len)
+  same : length c.count_rows.new.counts ≡ c.in_ok-counts.counts.len
+  same = omega (arith, long, c.in_ok-counts.ensures.len)
 
-  tallied : Counts (λ q. namers (rows_of c.args.rows.now) q c.args.count) n c.count-rows.new.counts
+  tallied : Counts (λ q. namers (rows_of c.args.rows.now) q c.args.count) n c.count_rows.new.counts
   tallied =
       record {
         long = omega (arith, long);
@@ -32,4 +32,4 @@ module _ (c : In-ok-count-rows) where
 pub returns : goal.returns
 returns c =
     subst (λ (l : List ℕ). Counts (λ q. namers (rows_of c.args.rows.now) q c.args.count) c.args.columns l)
-    (sym (with_items_is c.in-ok-counts.counts c.count-rows.new.counts (same c))) (tallied c)
+    (sym (with_items_is c.in_ok-counts.counts c.count_rows.new.counts (same c))) (tallied c)

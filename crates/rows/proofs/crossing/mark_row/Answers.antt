@@ -26,7 +26,7 @@ loop-q-preserved c =
     let k = c.args.k in
     let i = c.loop-q.q-index in
     grown_then (λ q. namings q k (take i row)) (next k row i) (λ q. namings q k (take (i + 1) row)) c.args.spans.now c.loop-q.spans c.args.places.now c.loop-q.places
-    (omega arith) c.loop-q.invariant c.mark-one.new.spans c.mark-one.new.places (λ q. namings_more row i q k c.loop-q-test.true) c.mark-one.ensures
+    (omega arith) c.loop-q.invariant c.mark_one.new.spans c.mark_one.new.places (λ q. namings_more row i q k c.loop-q-test.true) c.mark_one.ensures
 
 pub returns : goal.returns
 returns c =

@@ -24,6 +24,6 @@ loop-k-preserved c =
     let k = c.loop-k.k in
     let row = c.row.result.now in
     grown_then (λ q. namers rows q k) (λ q. namings q k row) (λ q. namers rows q (k + 1)) c.args.spans.now c.loop-k.spans c.args.places.now c.loop-k.places
-    (omega arith) c.loop-k.invariant c.mark-row.new.spans c.mark-row.new.places
+    (omega arith) c.loop-k.invariant c.mark_row.new.spans c.mark_row.new.places
     (λ q. namers_more rows q k ∙ ap (λ l. namers rows q k ++ namings q k l) (sym c.row.ensures))
-    c.mark-row.ensures
+    c.mark_row.ensures

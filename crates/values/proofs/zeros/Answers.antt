@@ -11,4 +11,4 @@ resized v was n m x z e w k u =
     e ∙ ap₂ (λ l i. l ++ replicate i x) (ap (take n) w ∙ take_nil n) d ∙ ap (replicate n) u
 
 pub returns : goal.returns
-returns g c = resized _ _ c.args.len _ _ _ c.in-ok-resize.ensures.items c.new-row.ensures.items c.new-row.ensures.len c.zero.ensures
+returns g c = resized _ _ c.args.len _ _ _ c.in_ok-resize.ensures.items c.new-row.ensures.items c.new-row.ensures.len c.zero.ensures

@@ -10,11 +10,11 @@ loop-k-preserved g c =
     let M = g.Self.Code.meaning c.args.self.now in
     let ns = g.Self.Code.told c.args.self.now c.args.row in
     let k = c.loop-k.k in
-    let q = c.in-Some-row-qubit.qubit in
-    let a = answered (is_row M c.args.row && ltb k (length ns)) (get_or ns k 0) q c.in-Some-row-qubit.ensures in
+    let q = c.in-Some-row_qubit.qubit in
+    let a = answered (is_row M c.args.row && ltb k (length ns)) (get_or ns k 0) q c.in-Some-row_qubit.ensures in
     let low = ltb-true k (length ns) (and_both (is_row M c.args.row) (ltb k (length ns)) a.0).1 in (
-      appended_more ns (vec_items c.reserve.new.self) (vec_items c.loop-k.list) (vec_items c.push-reserved.new.self) k q low c.loop-k.invariant.0 c.push-reserved.ensures.items a.1,
-      omega (arith, c.loop-k.invariant.1, c.push-reserved.ensures.len, c.push-reserved.ensures.capacity),
+      appended_more ns (vec_items c.reserve.new.self) (vec_items c.loop-k.list) (vec_items c.push_reserved.new.self) k q low c.loop-k.invariant.0 c.push_reserved.ensures.items a.1,
+      omega (arith, c.loop-k.invariant.1, c.push_reserved.ensures.len, c.push_reserved.ensures.capacity),
     )
 
 pub returns : goal.returns

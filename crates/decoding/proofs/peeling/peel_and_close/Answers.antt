@@ -21,18 +21,18 @@ use Rattle.decoding.proofs.peeling.peel_and_close.Goals as goal
 pair : {X Y : Type 0} {r : X × Y} {x : X} {y : Y} → (x ≡ r.0) × (y ≡ r.1) → r ≡ (x, y)
 pair h = let p = sym h.0 in let q = sym h.1 in λ i. (p i, q i)
 
-pub returns-in-err-trial : goal.returns-in-err-trial
-returns-in-err-trial c =
+pub returns-in_err-trial : goal.returns-in_err-trial
+returns-in_err-trial c =
     let M = meaning_of c.args.table.now in
     let t = tally_of c.args.tally.now in
     let u = tally_of c.open.new.tally in
     let lost = c.args.lost.now in
     let odds = c.args.odd.now in
     let checks = c.args.checks.now in
-    let p = err_from_is_err_and c.from-residual.result c.from-residual.ensures.1 in
+    let p = err_from_is_err_and c.from_residual.result c.from_residual.ensures.1 in
     record {
       does = subst (λ (r : Result Verdict Refusal). Decides r t u (decided M t lost odds checks)) (sym p.1)
-          (subst (λ (f : Refusal). Decides (Err f) t u (decided M t lost odds checks)) (sym p.2) (failed M t lost odds checks c.in-err-trial.field-0.0 u c.in-err-trial.ensures.does));
+          (subst (λ (f : Refusal). Decides (Err f) t u (decided M t lost odds checks)) (sym p.2) (failed M t lost odds checks c.in_err-trial.field-0.0 u c.in_err-trial.ensures.does));
       truth = subst (λ (r : Result Verdict Refusal). TrueAfter M t lost odds checks r) (sym p.1) tt;
     }
 
@@ -45,11 +45,11 @@ unreachable-requires c =
     let lost = c.args.lost.now in
     let odds = c.args.odd.now in
     let checks = c.args.checks.now in
-    let opened = c.in-ok-trial.ensures in
-    let o = opened_of c.in-ok-trial.field-0 in
+    let opened = c.in_ok-trial.ensures in
+    let o = opened_of c.in_ok-trial.field-0 in
     let e = pair opened.does in
     let end =
-    c.peel-each.ensures.does
+    c.peel_each.ensures.does
     ∙ ap (λ (x : Table). after (meaning_of x) o.trial (peels o.slip checks)) opened.table in
     let answer = ap (λ (x : Closed). x.answer) c.in-Err.ensures.does ∙ ap (λ (s : State). (close s o.slip u).answer) end in
     not_ok _ _ (answer ∙ (is_closed M t lost odds checks c.args.tally.now.balanced o u e).0)
@@ -63,15 +63,15 @@ returns c =
     let lost = c.args.lost.now in
     let odds = c.args.odd.now in
     let checks = c.args.checks.now in
-    let opened = c.in-ok-trial.ensures in
-    let o = opened_of c.in-ok-trial.field-0 in
+    let opened = c.in_ok-trial.ensures in
+    let o = opened_of c.in_ok-trial.field-0 in
     let e = pair opened.does in
     let end =
-    c.peel-each.ensures.does
+    c.peel_each.ensures.does
     ∙ ap (λ (x : Table). after (meaning_of x) o.trial (peels o.slip checks)) opened.table in
     let v = c.in-Ok.verdict in
     let closed = c.in-Ok.ensures.does in
-    let told = subst (λ (x : Table). TellsTruth (meaning_of x) (model c.peel-each.new.trial) (Ok v)) (c.peel-each.ensures.table ∙ opened.table) c.in-Ok.ensures.truth in
+    let told = subst (λ (x : Table). TellsTruth (meaning_of x) (model c.peel_each.new.trial) (Ok v)) (c.peel_each.ensures.table ∙ opened.table) c.in-Ok.ensures.truth in
     let true-here = told t u lost odds o e (peels o.slip checks) (sym end) in
     record {
       does = finished M t lost odds checks o u e v (tally_of c.close.new.tally)

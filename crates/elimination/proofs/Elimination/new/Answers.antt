@@ -7,19 +7,19 @@ use Rattle.elimination.proofs.Elimination.new.Goals as goal
 sized : {X : Type 0} (len n : ℕ) (z : X) (items : List X) → len ≡ length items → items ≡ replicate n z → len ≡ n
 sized len n z items l e = l ∙ ap length e ∙ length-replicate n z
 
-pub returns-in-err-row : goal.returns-in-err-row
-returns-in-err-row g c = let p = err_from_is_err_and c.from-residual-in-err-row.result c.from-residual-in-err-row.ensures.1 in rw p.1 p.2
+pub returns-in_err-row : goal.returns-in_err-row
+returns-in_err-row g c = let p = err_from_is_err_and c.from_residual-in_err-row.result c.from_residual-in_err-row.ensures.1 in rw p.1 p.2
 
-pub returns-in-err-least : goal.returns-in-err-least
-returns-in-err-least g c = let p = err_from_is_err_and c.from-residual-in-err-least.result c.from-residual-in-err-least.ensures.1 in rw p.1 p.2
+pub returns-in_err-least : goal.returns-in_err-least
+returns-in_err-least g c = let p = err_from_is_err_and c.from_residual-in_err-least.result c.from_residual-in_err-least.ensures.1 in rw p.1 p.2
 
-pub invariant-of-result : goal.invariant-of-result
-invariant-of-result g c =
+pub invariant_of-result : goal.invariant_of-result
+invariant_of-result g c =
     let z = g.row.T-Value.field.zer in
-    let t = c.in-ok-table.table in
-    let r = c.in-ok-row.row in
-    let l = c.in-ok-least.least in
-    (omega arith, (sized t.len 65792 z t.items t.ok.0 c.in-ok-table.ensures, (sized r.len 257 z r.items r.ok.0 c.in-ok-row.ensures, (sized l.len 256 z l.items l.ok.0 c.in-ok-least.ensures, tt))))
+    let t = c.in_ok-table.table in
+    let r = c.in_ok-row.row in
+    let l = c.in_ok-least.least in
+    (omega arith, (sized t.len 65792 z t.items t.ok.0 c.in_ok-table.ensures, (sized r.len 257 z r.items r.ok.0 c.in_ok-row.ensures, (sized l.len 256 z l.items l.ok.0 c.in_ok-least.ensures, tt))))
 
 pub returns : goal.returns
-returns g c = record { unknowns = refl; stands = begins g.row.T-Value.field 0 _ _ c.in-ok-table.table.items refl (ap (take 1) c.in-ok-row.ensures) }
+returns g c = record { unknowns = refl; stands = begins g.row.T-Value.field 0 _ _ c.in_ok-table.table.items refl (ap (take 1) c.in_ok-row.ensures) }

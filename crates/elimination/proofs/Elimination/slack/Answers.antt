@@ -12,9 +12,9 @@ pub returns : goal.returns
 returns g c =
     let K = g.row.T-Value.field in
     record {
-      few = omega (arith, c.slack-of.ensures.few, c.args.self.now.few);
+      few = omega (arith, c.slack_of.ensures.few, c.args.self.now.few);
       power =
           λ n rows written h.
-          power_is K n rows written _ _ _ c.slack-of.result c.if-self.false h.stands
-          (c.slack-of.ensures.counted ∙ ap (λ t. slack (basis_of K c.args.self.now.unknowns t)) c.deref.ensures.value ∙ ap (λ m. slack (basis_of K m c.args.self.now.table.items)) h.unknowns);
+          power_is K n rows written _ _ _ c.slack_of.result c.if-self.false h.stands
+          (c.slack_of.ensures.counted ∙ ap (λ t. slack (basis_of K c.args.self.now.unknowns t)) c.deref.ensures.value ∙ ap (λ m. slack (basis_of K m c.args.self.now.table.items)) h.unknowns);
     }

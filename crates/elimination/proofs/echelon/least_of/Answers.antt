@@ -12,35 +12,35 @@ ends w j n a b l = let h : j - 1 < w = omega arith in omega (arith, fits w (j - 
 pub loop-j-init : goal.loop-j-init
 loop-j-init g c = filled_none g.row.T-Value.field c.args.width c.args.table.now c.args.out.now c.requires.out
 
-pub offset-bounds-table-at : goal.offset-bounds-table-at
-offset-bounds-table-at g c =
+pub offset_bounds-table-at : goal.offset_bounds-table-at
+offset_bounds-table-at g c =
     let h : (c.loop-j.j - 1) * (c.args.width + 1) + (c.loop-j.j - 1) + 1 ≤ length c.args.table.now = omega (arith, ends c.args.width c.loop-j.j (length c.args.table.now) c.loop-j-test.true c.loop-j.invariant.within c.requires.within, c.loop-j.invariant.within) in
     omega (arith, mul-le-mul_right (size (layout g.row.T)) h, c.well-formed)
 
 pub bounds-table-at : goal.bounds-table-at
 bounds-table-at g c = omega (arith, ends c.args.width c.loop-j.j (length c.args.table.now) c.loop-j-test.true c.loop-j.invariant.within c.requires.within, c.loop-j.invariant.within)
 
-pub loop-j-preserved-then-is-zero : goal.loop-j-preserved-then-is-zero
-loop-j-preserved-then-is-zero g c =
+pub loop-j-preserved-then-is_zero : goal.loop-j-preserved-then-is_zero
+loop-j-preserved-then-is_zero g c =
     let q : c.loop-j.j ≡ suc (c.loop-j.j - 1) = omega arith in
     filled_free g.row.T-Value.field c.args.width c.args.table.now c.loop-j.j (c.loop-j.j - 1) c.loop-j.out c.requires.within q c.index-table-at.result c.index-table-at.is c.loop-j.invariant
-    c.zero.result (sym c.is-zero.ensures ∙ c.if-is-zero.true) c.zero.ensures
+    c.zero.result (sym c.is_zero.ensures ∙ c.if-is_zero.true) c.zero.ensures
 
-pub offset-bounds-table-at-else-is-zero : goal.offset-bounds-table-at-else-is-zero
-offset-bounds-table-at-else-is-zero g c =
+pub offset_bounds-table-at-else-is_zero : goal.offset_bounds-table-at-else-is_zero
+offset_bounds-table-at-else-is_zero g c =
     let h : (c.loop-j.j - 1) * (c.args.width + 1) + (c.loop-j.j - 1) + 2 ≤ length c.args.table.now = omega (arith, ends c.args.width c.loop-j.j (length c.args.table.now) c.loop-j-test.true c.loop-j.invariant.within c.requires.within, c.loop-j.invariant.within) in
     omega (arith, mul-le-mul_right (size (layout g.row.T)) h, c.well-formed)
 
-pub slice-bounds-dot-end : goal.slice-bounds-dot-end
-slice-bounds-dot-end g c = omega (arith, ends c.args.width c.loop-j.j (length c.args.table.now) c.loop-j-test.true c.loop-j.invariant.within c.requires.within, c.loop-j.invariant.within)
+pub slice_bounds-dot-end : goal.slice_bounds-dot-end
+slice_bounds-dot-end g c = omega (arith, ends c.args.width c.loop-j.j (length c.args.table.now) c.loop-j-test.true c.loop-j.invariant.within c.requires.within, c.loop-j.invariant.within)
 
-pub offset-bounds-table-at-else-is-zero-2 : goal.offset-bounds-table-at-else-is-zero-2
-offset-bounds-table-at-else-is-zero-2 g c =
+pub offset_bounds-table-at-else-is_zero-2 : goal.offset_bounds-table-at-else-is_zero-2
+offset_bounds-table-at-else-is_zero-2 g c =
     let h : (c.loop-j.j - 1) * (c.args.width + 1) ≤ length c.args.table.now = omega (arith, ends c.args.width c.loop-j.j (length c.args.table.now) c.loop-j-test.true c.loop-j.invariant.within c.requires.within, c.loop-j.invariant.within) in
     omega (arith, mul-le-mul_right (size (layout g.row.T)) h, c.well-formed)
 
-pub bounds-table-at-else-is-zero : goal.bounds-table-at-else-is-zero
-bounds-table-at-else-is-zero g c = omega (arith, ends c.args.width c.loop-j.j (length c.args.table.now) c.loop-j-test.true c.loop-j.invariant.within c.requires.within, c.loop-j.invariant.within)
+pub bounds-table-at-else-is_zero : goal.bounds-table-at-else-is_zero
+bounds-table-at-else-is_zero g c = omega (arith, ends c.args.width c.loop-j.j (length c.args.table.now) c.loop-j-test.true c.loop-j.invariant.within c.requires.within, c.loop-j.invariant.within)
 
 pub loop-j-preserved : goal.loop-j-preserved
 loop-j-preserved g c =
@@ -54,5 +54,5 @@ loop-j-preserved g c =
     let nq : ((c.loop-j.j - 1) * (w + 1) + (w + 1)) - ((c.loop-j.j - 1) * (w + 1) + (c.loop-j.j - 1) + 2) ≡ w - suc (c.loop-j.j - 1) = omega (arith, c.loop-j.invariant.within) in
     let mq : length c.loop-j.out - ((c.loop-j.j - 1) + 1) ≡ w - suc (c.loop-j.j - 1) = omega (arith, c.loop-j.invariant.long) in
     filled_lead K w T c.loop-j.j j c.loop-j.out c.requires.within q c.index-table-at.result c.index-table-at.is c.loop-j.invariant
-    (take n (drop (j * (w + 1) + j + 2) T)) (take m (drop (j + 1) c.loop-j.out)) c.index-table-at-else-is-zero.result c.dot-sum.result c.negated.result c.plus.result n m
-    (sym c.is-zero.ensures ∙ c.if-is-zero.false) c.index-table-at-else-is-zero.is nq mq refl refl c.dot-sum.ensures.sum c.negated.ensures c.plus.ensures
+    (take n (drop (j * (w + 1) + j + 2) T)) (take m (drop (j + 1) c.loop-j.out)) c.index-table-at-else-is_zero.result c.dot-sum.result c.negated.result c.plus.result n m
+    (sym c.is_zero.ensures ∙ c.if-is_zero.false) c.index-table-at-else-is_zero.is nq mq refl refl c.dot-sum.ensures.sum c.negated.ensures c.plus.ensures

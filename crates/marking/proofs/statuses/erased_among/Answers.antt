@@ -4,19 +4,19 @@ use Rattle.upkeep.specs.Rows.{first_in}
 use Rattle.upkeep.specs.Statuses.{erased_of}
 use Rattle.marking.proofs.statuses.erased_among.Goals as goal
 
-pub returns-then-is-erased : goal.returns-then-is-erased
-returns-then-is-erased c =
+pub returns-then-is_erased : goal.returns-then-is_erased
+returns-then-is_erased c =
     let i = c.loop-q.q-index in
     let row = c.args.row.now in
     let m = erased_of c.args.status.now in
-    ap (λ t. cond t (Some (get_or row i 0)) (first_in m (drop (i + 1) row))) c.if-is-erased.ensures ∙ sym (at_drop_more (first_in m) row i 0 c.loop-q-test.true) ∙ c.loop-q.invariant
+    ap (λ t. cond t (Some (get_or row i 0)) (first_in m (drop (i + 1) row))) c.if-is_erased.ensures ∙ sym (at_drop_more (first_in m) row i 0 c.loop-q-test.true) ∙ c.loop-q.invariant
 
 pub loop-q-preserved : goal.loop-q-preserved
 loop-q-preserved c =
     let i = c.loop-q.q-index in
     let row = c.args.row.now in
     let m = erased_of c.args.status.now in
-    ap (λ t. cond t (Some (get_or row i 0)) (first_in m (drop (i + 1) row))) c.if-is-erased.ensures ∙ sym (at_drop_more (first_in m) row i 0 c.loop-q-test.true) ∙ c.loop-q.invariant
+    ap (λ t. cond t (Some (get_or row i 0)) (first_in m (drop (i + 1) row))) c.if-is_erased.ensures ∙ sym (at_drop_more (first_in m) row i 0 c.loop-q-test.true) ∙ c.loop-q.invariant
 
 pub returns : goal.returns
 returns c = sym (at_drop_all (first_in (erased_of c.args.status.now)) c.args.row.now c.loop-q.q-index (omega arith)) ∙ c.loop-q.invariant

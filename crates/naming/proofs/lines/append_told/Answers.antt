@@ -11,8 +11,8 @@ loop-k-preserved g c =
     let k = c.loop-k.k in
     let start = string_bytes c.args.out.now in
     let len = (answered _ _ c.in-Some.len c.in-Some.ensures).1 in
-    let at : c.in-Some-row-qubit.q ≡ get_or told k 0 = (answered _ _ c.in-Some-row-qubit.q c.in-Some-row-qubit.ensures).1 in
-    let wrote : string_bytes c.write.new.self ≡ string_bytes c.loop-k.out ++ told_qubit c.in-Some-row-qubit.q = search rules in
+    let at : c.in-Some-row_qubit.q ≡ get_or told k 0 = (answered _ _ c.in-Some-row_qubit.q c.in-Some-row_qubit.ensures).1 in
+    let wrote : string_bytes c.write.new.self ≡ string_bytes c.loop-k.out ++ told_qubit c.in-Some-row_qubit.q = search rules in
     wrote ∙ ap (λ q. string_bytes c.loop-k.out ++ told_qubit q) at ∙ ap (λ l. l ++ told_qubit (get_or told k 0)) c.loop-k.invariant
     ∙ flat_map_more told_qubit start (take k told) (get_or told k 0)
     ∙ ap (λ l. start ++ flat_map told_qubit l) (sym (take_more told k 0 (omega (arith, len, c.loop-k-test.true))))

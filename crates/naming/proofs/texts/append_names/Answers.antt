@@ -6,13 +6,13 @@ use Rattle.naming.specs.Texts.{count_line}
 use Rattle.naming.proofs.Joins.{five}
 use Rattle.naming.proofs.texts.append_names.Goals as goal
 
-pub append-qubits-requires-2 : goal.append-qubits-requires-2
-append-qubits-requires-2 g c =
+pub append_qubits-requires-2 : goal.append_qubits-requires-2
+append_qubits-requires-2 g c =
     let s = c.requires.sizes in
     (mul-le c.args.columns c.args.columns 32 32 s.3 s.3, s.1)
 
-pub overflow-add-qubits : goal.overflow-add-qubits
-overflow-add-qubits g c =
+pub overflow_add-qubits : goal.overflow_add-qubits
+overflow_add-qubits g c =
     let s = c.requires.sizes in
     omega (arith, mul-le c.args.columns c.args.columns 32 32 s.3 s.3, mul-le c.args.rows c.args.rows 32 32 s.1 s.1)
 
@@ -21,6 +21,6 @@ returns g c =
     let r = c.args.rows in
     let n = c.args.columns in
     let told = g.C.Code.told c.args.code.now in
-    let counted : string_bytes c.write.new.self ≡ string_bytes c.append-rows-2.new.out ++ count_line r n = search rules in
+    let counted : string_bytes c.write.new.self ≡ string_bytes c.append_rows-2.new.out ++ count_line r n = search rules in
     five (string_bytes c.args.out.now) _ _ _ _ _ (qubit_lines (codes "b") 0 n) (qubit_lines (codes "a") (n * n) r) (row_lines told Checks r (n * r)) (row_lines told Generators n (r * n)) (count_line r n)
-    c.in-ok-append-qubits.ensures c.in-ok-append-qubits-2.ensures c.in-ok-append-rows.ensures c.in-ok-append-rows-2.ensures counted
+    c.in_ok-append_qubits.ensures c.in_ok-append_qubits-2.ensures c.in_ok-append_rows.ensures c.in_ok-append_rows-2.ensures counted

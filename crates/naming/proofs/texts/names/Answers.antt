@@ -23,12 +23,12 @@ pub record Made (r n : ℕ) (l : List Place) (p : Product) : Type 0 where
 made : (r n : ℕ) (l : List Place) (p : Product) → Answers (Ok p) (seed_fault r n l) (λ x. (meaning_of x ≡ product_code r n (seed_of r n l)) × (told_of x ≡ product_told r n (seed_of r n l))) → Made r n l p
 made r n l p h = let a = answered_ok p (seed_fault r n l) (λ x. (meaning_of x ≡ product_code r n (seed_of r n l)) × (told_of x ≡ product_told r n (seed_of r n l))) h in record { taken = a.0; means = a.1.0; tells = a.1.1 }
 
-pub append-names-requires : goal.append-names-requires
-append-names-requires c =
+pub append_names-requires : goal.append_names-requires
+append_names-requires c =
     let r = c.args.rows in
     let n = c.args.columns in
     let l = c.args.places.now in
-    let m = made r n l c.in-ok-product.product c.in-ok-product.ensures in
+    let m = made r n l c.in_ok-product.product c.in_ok-product.ensures in
     let s = taken_sizes r n l m.taken in
     let seed : Seed r n (seed_of r n l) = matrix_seed r n (λ a b. marked a b l) s.rows.0 s.rows.1 s.columns.0 s.columns.1 in
     record {
@@ -39,6 +39,6 @@ append-names-requires c =
 
 pub returns : goal.returns
 returns c =
-    let m = made c.args.rows c.args.columns c.args.places.now c.in-ok-product.product c.in-ok-product.ensures in
+    let m = made c.args.rows c.args.columns c.args.places.now c.in_ok-product.product c.in_ok-product.ensures in
     memory_ok _ _ _ m.taken
-    (c.in-ok-append-names.ensures ∙ ap (λ l. l ++ names_text c.args.rows c.args.columns (told_of c.in-ok-product.product)) c.new-out.ensures.bytes ∙ ap (names_text c.args.rows c.args.columns) m.tells)
+    (c.in_ok-append_names.ensures ∙ ap (λ l. l ++ names_text c.args.rows c.args.columns (told_of c.in_ok-product.product)) c.new-out.ensures.bytes ∙ ap (names_text c.args.rows c.args.columns) m.tells)

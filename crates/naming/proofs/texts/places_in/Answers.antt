@@ -10,7 +10,7 @@ pub loop-k-preserved : goal.loop-k-preserved
 loop-k-preserved c =
     let numbers = c.args.numbers.now in
     let k = c.loop-k.k in
-    c.in-ok-push.ensures.items ∙ ap (λ l. l ++ place_at numbers k ∷ []) c.loop-k.invariant ∙ sym (map-range_with_len_more (place_at numbers) 0 k k (omega arith))
+    c.in_ok-push.ensures.items ∙ ap (λ l. l ++ place_at numbers k ∷ []) c.loop-k.invariant ∙ sym (map-range_with_len_more (place_at numbers) 0 k k (omega arith))
 
 counted : (l : List ℕ) → 2 ≤ length l → (length l % 2 ≡ 1 → ⊥) → count_fault l ≡ None
 counted l h o = ap (λ t. cond t (Some WrongEnd) (cond (eqb (length l % 2) 1) (Some OutsideLimits) None)) (le-ltb (length l) 2 h) ∙ ap (λ t. cond t (Some OutsideLimits) None) (ne_eqb (length l % 2) 1 o)

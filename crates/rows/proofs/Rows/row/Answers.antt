@@ -15,25 +15,25 @@ returns-then-k-len c =
     let r = c.args.self.now in
     sym (row_past (vec_items r.places) (vec_items r.spans) c.args.k (omega arith))
 
-pub overflow-add-end : goal.overflow-add-end
-overflow-add-end c =
+pub overflow_add-end : goal.overflow_add-end
+overflow_add-end c =
     let r = c.args.self.now in
     let s = c.index-span.result.now in
     let h : c.args.k < length (vec_items r.spans) = omega arith in
     let e = ends (vec_items r.places) (vec_items r.spans) c.args.k s r.within h c.index-span.ensures in
     omega (arith, r.places.small, r.places.ok)
 
-pub offset-bounds-deref-start : goal.offset-bounds-deref-start
-offset-bounds-deref-start c =
+pub offset_bounds-deref-start : goal.offset_bounds-deref-start
+offset_bounds-deref-start c =
     let r = c.args.self.now in
     let s = c.index-span.result.now in
     let h : c.args.k < length (vec_items r.spans) = omega arith in
     let e = ends (vec_items r.places) (vec_items r.spans) c.args.k s r.within h c.index-span.ensures in
     let v = ap length c.deref-2.ensures.value in
-    omega (arith, c.deref-2.type-inv.1)
+    omega (arith, c.deref-2.type_inv.1)
 
-pub slice-bounds-result-end-2 : goal.slice-bounds-result-end-2
-slice-bounds-result-end-2 c =
+pub slice_bounds-result-end-2 : goal.slice_bounds-result-end-2
+slice_bounds-result-end-2 c =
     let r = c.args.self.now in
     let s = c.index-span.result.now in
     let h : c.args.k < length (vec_items r.spans) = omega arith in

@@ -25,8 +25,8 @@ module _ (c : In_ok-count_rows) where
       record {
         long = omega (arith, long);
         each = λ q h.
-            let l : q < length c.as-mut-slice.result.now = omega (arith, long) in
-            omega (arith, c.in-ok-count-rows.ensures q l, ap (λ l. get_or l q 0) zeros, get_or-replicate {A = ℕ} n q 0 0 h);
+            let l : q < length c.as_mut_slice.result.now = omega (arith, long) in
+            omega (arith, c.in_ok-count_rows.ensures q l, ap (λ l. get_or l q 0) zeros, get_or-replicate {A = ℕ} n q 0 0 h);
       }
 
 pub returns : goal.returns

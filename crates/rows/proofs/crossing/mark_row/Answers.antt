@@ -10,8 +10,8 @@ use Rattle.rows.proofs.crossing.mark_row.Goals as goal
 abbrev next : ℕ → List ℕ → ℕ → ℕ → List ℕ
 next k row i q = cond (eqb q (get_or row i 0)) (k ∷ []) []
 
-pub mark-one-requires : goal.mark-one-requires
-mark-one-requires c =
+pub mark_one-requires : goal.mark_one-requires
+mark_one-requires c =
     let row = c.args.row.now in
     let k = c.args.k in
     let i = c.loop-q.q-index in

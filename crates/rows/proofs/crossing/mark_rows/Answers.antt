@@ -6,8 +6,8 @@ use Rattle.rows.proofs.Growing.{grown_then, room_then}
 use Rattle.rows.proofs.Named.{namers_more, namers_within}
 use Rattle.rows.proofs.crossing.mark_rows.Goals as goal
 
-pub mark-row-requires : goal.mark-row-requires
-mark-row-requires c =
+pub mark_row-requires : goal.mark_row-requires
+mark_row-requires c =
     let rows = rows_of c.args.rows.now in
     let k = c.loop-k.k in
     let row = c.row.result.now in

@@ -3,8 +3,8 @@ use Rattle.table.specs.Stands.{table_sound}
 use Rattle.table.proofs.Limits.{as_many_checks}
 use Rattle.table.proofs.Table.checks.Goals as goal
 
-pub overflow-cast-result : goal.overflow-cast-result
-overflow-cast-result c = omega (arith, (table_sound c.args.self.now).few_checks, as_many_checks c.args.self.now)
+pub overflow_cast-result : goal.overflow_cast-result
+overflow_cast-result c = omega (arith, (table_sound c.args.self.now).few_checks, as_many_checks c.args.self.now)
 
 pub returns : goal.returns
 returns c = omega (arith, as_many_checks c.args.self.now)

@@ -12,9 +12,9 @@ use Rattle.table.specs.OfTable.{meaning_of, told_of}
 use Rattle.table.proofs.Held.{code_is, told_is, held_sound, held_tells, check_columns, generator_columns}
 use Rattle.table.proofs.Table.of.Given as given
 use Rattle.table.proofs.Table.of.Goals as goal
-use Rattle.table.proofs.Table.of.Goals.{In-ok-generators-at}
+use Rattle.table.proofs.Table.of.Goals.{In_ok-generators_at}
 
-module _ (g : given.Over) (c : In-ok-generators-at g) where
+module _ (g : given.Over) (c : In_ok-generators_at g) where
   abbrev M : Meaning
   M = g.C.Code.meaning c.args.code.now
 
@@ -28,41 +28,41 @@ module _ (g : given.Over) (c : In-ok-generators-at g) where
   t = g.C.Code.tells c.args.code.now
 
   abbrev cs : List (List ℕ)
-  cs = rows_of c.in-ok-checks.checks
+  cs = rows_of c.in_ok-checks.checks
 
   abbrev gs : List (List ℕ)
-  gs = rows_of c.in-ok-generators.generators
+  gs = rows_of c.in_ok-generators.generators
 
   abbrev sides : List Side
-  sides = vec_items c.in-ok-sides.sides
+  sides = vec_items c.in_ok-sides.sides
 
   code : held_code cs gs sides ≡ M
-  code = code_is M told s t cs gs sides c.in-ok-checks.ensures c.in-ok-generators.ensures c.in-ok-sides.ensures
+  code = code_is M told s t cs gs sides c.in_ok-checks.ensures c.in_ok-generators.ensures c.in_ok-sides.ensures
 
   order : (r : Row) → is_row M r ≡ true → listed_told cs gs r ≡ told r
-  order = told_is M told s t cs gs sides c.in-ok-checks.ensures c.in-ok-generators.ensures c.in-ok-sides.ensures
+  order = told_is M told s t cs gs sides c.in_ok-checks.ensures c.in_ok-generators.ensures c.in_ok-sides.ensures
 
   sound : Sound (held_code cs gs sides)
-  sound = held_sound M told s t cs gs sides c.in-ok-checks.ensures c.in-ok-generators.ensures c.in-ok-sides.ensures
+  sound = held_sound M told s t cs gs sides c.in_ok-checks.ensures c.in_ok-generators.ensures c.in_ok-sides.ensures
 
   tells : Tells (held_code cs gs sides) (listed_told cs gs)
-  tells = held_tells M told s t cs gs sides c.in-ok-checks.ensures c.in-ok-generators.ensures c.in-ok-sides.ensures
+  tells = held_tells M told s t cs gs sides c.in_ok-checks.ensures c.in_ok-generators.ensures c.in_ok-sides.ensures
 
-  at_checks : rows_of c.in-ok-checks-at.checks-at ≡ columns (length sides) (held_code cs gs sides).checks
+  at_checks : rows_of c.in_ok-checks_at.checks_at ≡ columns (length sides) (held_code cs gs sides).checks
   at_checks =
-      check_columns M told s t cs gs sides c.in-ok-checks.ensures c.in-ok-generators.ensures c.in-ok-sides.ensures
-      (rows_of c.in-ok-checks-at.checks-at) c.checks.result c.qubits-qubits.result c.qubits-qubits.ensures c.checks.ensures c.in-ok-checks-at.ensures
+      check_columns M told s t cs gs sides c.in_ok-checks.ensures c.in_ok-generators.ensures c.in_ok-sides.ensures
+      (rows_of c.in_ok-checks_at.checks_at) c.checks.result c.qubits-qubits.result c.qubits-qubits.ensures c.checks.ensures c.in_ok-checks_at.ensures
 
-  at_generators : rows_of c.in-ok-generators-at.generators-at ≡ columns (length sides) (held_code cs gs sides).generators
+  at_generators : rows_of c.in_ok-generators_at.generators_at ≡ columns (length sides) (held_code cs gs sides).generators
   at_generators =
-      generator_columns M told s t cs gs sides c.in-ok-checks.ensures c.in-ok-generators.ensures c.in-ok-sides.ensures
-      (rows_of c.in-ok-generators-at.generators-at) c.generators.result c.qubits-qubits.result c.qubits-qubits.ensures c.generators.ensures c.in-ok-generators-at.ensures
+      generator_columns M told s t cs gs sides c.in_ok-checks.ensures c.in_ok-generators.ensures c.in_ok-sides.ensures
+      (rows_of c.in_ok-generators_at.generators_at) c.generators.result c.qubits-qubits.result c.qubits-qubits.ensures c.generators.ensures c.in_ok-generators_at.ensures
 
-pub invariant-of-result : goal.invariant-of-result
-invariant-of-result g c = (∣ sound g c ∣₁, (∣ tells g c ∣₁, (at_checks g c, (at_generators g c, tt))))
+pub invariant_of-result : goal.invariant_of-result
+invariant_of-result g c = (∣ sound g c ∣₁, (∣ tells g c ∣₁, (at_checks g c, (at_generators g c, tt))))
 
 pub returns : goal.returns
 unfolding meaning_of told_of
 returns g c =
-    let a = (goal.at.returns g c).In-ok-generators-at in
+    let a = (goal.at.returns g c).In_ok-generators_at in
     (code g a, order g a)

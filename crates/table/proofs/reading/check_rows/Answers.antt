@@ -6,5 +6,5 @@ use Rattle.table.proofs.reading.check_rows.Goals as goal
 
 pub loop-k-preserved : goal.loop-k-preserved
 loop-k-preserved g c =
-    made_more (λ k. g.C.Code.told c.args.code.now (Check k)) (rows_of c.loop-k.rows) (rows_of c.push.new.self) c.loop-k.k c.as-slice.result.now
-    c.loop-k.invariant c.in-ok-push.ensures (c.as-slice.ensures.value ∙ c.in-ok-read-row.ensures)
+    made_more (λ k. g.C.Code.told c.args.code.now (Check k)) (rows_of c.loop-k.rows) (rows_of c.push.new.self) c.loop-k.k c.as_slice.result.now
+    c.loop-k.invariant c.in_ok-push.ensures (c.as_slice.ensures.value ∙ c.in_ok-read_row.ensures)

@@ -10,10 +10,10 @@ loop-k-preserved g c =
     let M = g.C.Code.meaning c.args.code.now in
     let ns = g.C.Code.told c.args.code.now c.args.row in
     let k = c.loop-k.k in
-    let q = c.in-Some-row-qubit.q in
-    let a = answered (is_row M c.args.row && ltb k (length ns)) (get_or ns k 0) q c.in-Some-row-qubit.ensures in
+    let q = c.in-Some-row_qubit.q in
+    let a = answered (is_row M c.args.row && ltb k (length ns)) (get_or ns k 0) q c.in-Some-row_qubit.ensures in
     let low = ltb-true k (length ns) (and_both (is_row M c.args.row) (ltb k (length ns)) a.0).1 in
-    read_more ns (vec_items c.loop-k.buffer) (vec_items c.push.new.self) k q 0 low c.loop-k.invariant c.in-ok-push.ensures.items a.1
+    read_more ns (vec_items c.loop-k.buffer) (vec_items c.push.new.self) k q 0 low c.loop-k.invariant c.in_ok-push.ensures.items a.1
 
 pub returns : goal.returns
 returns g c =

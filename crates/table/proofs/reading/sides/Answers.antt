@@ -14,7 +14,7 @@ loop-q-preserved g c =
     let a = answered (ltb q (length ones)) (side_of (has ones q)) c.in-Some.side c.in-Some.ensures in
     let low = ltb-true q (length ones) a.0 in
     read_more (map side_of ones) (vec_items c.loop-q.sides) (vec_items c.push.new.self) q c.in-Some.side Zero
-    (omega (arith, length-map ones side_of)) c.loop-q.invariant c.in-ok-push.ensures.items (a.1 ∙ sym (get_or-map side_of ones q false Zero low))
+    (omega (arith, length-map ones side_of)) c.loop-q.invariant c.in_ok-push.ensures.items (a.1 ∙ sym (get_or-map side_of ones q false Zero low))
 
 pub returns : goal.returns
 returns g c =

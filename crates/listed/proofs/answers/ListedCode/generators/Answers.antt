@@ -6,8 +6,8 @@ use Rattle.listed.specs.OfListed.{sides_of, meaning_of}
 use Rattle.listed.proofs.Limits.{limits_of}
 use Rattle.listed.proofs.answers.ListedCode.generators.Goals as goal
 
-pub overflow-cast-result : goal.overflow-cast-result
-overflow-cast-result c = let l = limits_of c.args.self.now in omega arith
+pub overflow_cast-result : goal.overflow_cast-result
+overflow_cast-result c = let l = limits_of c.args.self.now in omega arith
 
 pub returns : goal.returns
 unfolding meaning_of

@@ -1,5 +1,5 @@
 use Rattle.listed.proofs.Limits.{row_fits}
 use Rattle.listed.proofs.answers.ListedCode.row_len.Goals as goal
 
-pub overflow-cast-result : goal.overflow-cast-result
-overflow-cast-result c = row_fits _ _ _ c.row.ensures
+pub overflow_cast-result : goal.overflow_cast-result
+overflow_cast-result c = row_fits _ _ _ c.row.ensures

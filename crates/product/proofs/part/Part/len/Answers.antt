@@ -8,6 +8,6 @@ pub returns : goal.returns
 returns c =
     let p = c.args.self.now in
     record {
-      value = c.count-of-ones.ensures.value ∙ sym (length-map (elements (ones p.word)) (λ x. p.first + x * p.step));
-      bound = c.count-of-ones.ensures.bound;
+      value = c.count_of_ones.ensures.value ∙ sym (length-map (elements (ones p.word)) (λ x. p.first + x * p.step));
+      bound = c.count_of_ones.ensures.bound;
     }

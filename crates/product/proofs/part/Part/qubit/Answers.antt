@@ -22,11 +22,11 @@ product_low c =
     let f = found c in
     mul-le c.in-Some.x c.args.self.now.step 32 32 (omega (arith, f.1, one_low c.args.self.now.word c.args.k f.0)) c.args.self.now.step_low
 
-pub overflow-mul-result : goal.overflow-mul-result
-overflow-mul-result c = omega (arith, product_low c)
+pub overflow_mul-result : goal.overflow_mul-result
+overflow_mul-result c = omega (arith, product_low c)
 
-pub overflow-add-result : goal.overflow-add-result
-overflow-add-result c = omega (arith, product_low c, c.args.self.now.first_low)
+pub overflow_add-result : goal.overflow_add-result
+overflow_add-result c = omega (arith, product_low c, c.args.self.now.first_low)
 
 pub returns-in-Some : goal.returns-in-Some
 returns-in-Some c =

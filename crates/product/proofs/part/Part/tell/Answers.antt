@@ -5,13 +5,13 @@ use Rattle.product.proofs.part.Part.tell.Goals as goal
 pub loop-rest-init : goal.loop-rest-init
 loop-rest-init c = telling_none c.args.self.now (vec_items c.args.list.now) (vec_len c.args.list.now) (vec_capacity c.args.list.now) (omega arith) c.requires
 
-pub overflow-add-self : goal.overflow-add-self
-overflow-add-self c =
+pub overflow_add-self : goal.overflow_add-self
+overflow_add-self c =
     let some : 0 < c.loop-rest.rest = omega arith in
     omega (arith, first_qubit_low c.args.self.now _ _ c.loop-rest.rest _ _ _ c.loop-rest.invariant some)
 
-pub push-reserved-requires : goal.push-reserved-requires
-push-reserved-requires c =
+pub push_reserved-requires : goal.push_reserved-requires
+push_reserved-requires c =
     let some : 0 < c.loop-rest.rest = omega arith in
     omega (arith, c.loop-rest.invariant.room, fewer c.args.self.now _ _ c.loop-rest.rest _ _ _ c.loop-rest.invariant some)
 
@@ -24,8 +24,8 @@ pub loop-rest-preserved : goal.loop-rest-preserved
 loop-rest-preserved c =
     let some : 0 < c.loop-rest.rest = omega arith in
     telling_more c.args.self.now _ _ c.loop-rest.rest _ _ _ c.loop-rest.invariant some
-    (vec_items c.push-reserved.new.self) (vec_len c.push-reserved.new.self) (vec_capacity c.push-reserved.new.self)
-    c.push-reserved.ensures.items c.push-reserved.ensures.len c.push-reserved.ensures.capacity
+    (vec_items c.push_reserved.new.self) (vec_len c.push_reserved.new.self) (vec_capacity c.push_reserved.new.self)
+    c.push_reserved.ensures.items c.push_reserved.ensures.len c.push_reserved.ensures.capacity
 
 pub returns : goal.returns
 returns c =

@@ -8,8 +8,8 @@ back_low c =
     let p = c.args.self.now in
     omega (arith, pairs_low p.columns p.columns p.few_columns p.few_columns, pairs_low c.args.a p.rows (omega (arith, c.requires.0, p.few_rows)) p.few_rows)
 
-pub overflow-add-columns : goal.overflow-add-columns
-overflow-add-columns c = omega (arith, back_low c)
+pub overflow_add-columns : goal.overflow_add-columns
+overflow_add-columns c = omega (arith, back_low c)
 
 pub new-back-requires : goal.new-back-requires
 new-back-requires c = (back_low c, omega arith)

@@ -8,13 +8,13 @@ use Rattle.product.proofs.product.Product.new.Goals as goal
 
 pub words-requires : goal.words-requires
 words-requires c =
-    outside_wider c.args.rows c.args.columns 32 32 (size_inside c.args.rows (sym c.if-size-outside.ensures)).1 (size_inside c.args.columns (sym c.if-size-outside-2.ensures)).1
-    c.args.places.now (sym c.if-some-outside.ensures)
+    outside_wider c.args.rows c.args.columns 32 32 (size_inside c.args.rows (sym c.if-size_outside.ensures)).1 (size_inside c.args.columns (sym c.if-size_outside-2.ensures)).1
+    c.args.places.now (sym c.if-some_outside.ensures)
 
-pub invariant-of-result : goal.invariant-of-result
-invariant-of-result c =
-    let r = size_inside c.args.rows (sym c.if-size-outside.ensures) in
-    let n = size_inside c.args.columns (sym c.if-size-outside-2.ensures) in (
+pub invariant_of-result : goal.invariant_of-result
+invariant_of-result c =
+    let r = size_inside c.args.rows (sym c.if-size_outside.ensures) in
+    let n = size_inside c.args.columns (sym c.if-size_outside-2.ensures) in (
       r.0,
       (
         r.1,
@@ -25,7 +25,7 @@ invariant-of-result c =
             (
               λ a b. c.words.ensures.rows a b ∙ sym (c.words.ensures.columns a b),
               (
-                λ a b e. marked_inside c.args.rows c.args.columns c.args.places.now (sym c.if-some-outside.ensures) a b (sym (c.words.ensures.rows a b) ∙ e),
+                λ a b e. marked_inside c.args.rows c.args.columns c.args.places.now (sym c.if-some_outside.ensures) a b (sym (c.words.ensures.rows a b) ∙ e),
                 tt,
               ),
             ),
@@ -40,5 +40,5 @@ returns c =
     let r = c.args.rows in
     let n = c.args.columns in
     let l = c.args.places.now in
-    answers_ok _ _ _ (seed_taken r n l (sym c.if-size-outside.ensures) (sym c.if-size-outside-2.ensures) (sym c.if-some-outside.ensures) (sym c.if-not-rises.ensures))
+    answers_ok _ _ _ (seed_taken r n l (sym c.if-size_outside.ensures) (sym c.if-size_outside-2.ensures) (sym c.if-some_outside.ensures) (sym c.if-not-rises.ensures))
     (ap (λ f. product_code r n (matrix r n f)) (λ i a b. c.words.ensures.rows a b i), ap (λ f. product_told r n (matrix r n f)) (λ i a b. c.words.ensures.rows a b i))

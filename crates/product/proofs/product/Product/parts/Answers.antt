@@ -7,13 +7,13 @@ use Rattle.product.specs.Parts.{Splits}
 use Rattle.product.specs.Stands.{is_seed}
 use Rattle.product.proofs.product.Product.parts.Goals as goal
 
-pub check-parts-requires : goal.check-parts-requires
-check-parts-requires c =
+pub check_parts-requires : goal.check_parts-requires
+check_parts-requires c =
     let p = c.args.self.now in
     (div_below c.in-Check.k p.rows p.columns p.some_rows c.if-k-columns.true, mod_below c.in-Check.k p.rows p.some_rows)
 
-pub generator-parts-requires : goal.generator-parts-requires
-generator-parts-requires c =
+pub generator_parts-requires : goal.generator_parts-requires
+generator_parts-requires c =
     let p = c.args.self.now in
     (div_below c.in-Generator.k p.columns p.rows p.some_columns c.if-k-rows.true, mod_below c.in-Generator.k p.columns p.some_columns)
 

@@ -14,5 +14,5 @@ returns c =
     let s = model t in
     let slip = c.args.slip.number in
     let tally = tally_of c.args.tally.now in
-    let e = closes s slip tally (sym c.if-not-is-shown.ensures) (sym c.if-has-none-out.ensures) c.outcome-outcome.result (tally_of c.close-one.new.self) c.outcome-outcome.ensures c.close-one.ensures in
+    let e = closes s slip tally (sym c.if-not-is_shown.ensures) (sym c.if-has_none_out.ensures) c.outcome-outcome.result (tally_of c.close_one.new.self) c.outcome-outcome.ensures c.close_one.ensures in
     record { does = e; truth = tells_truth (code t) (table_sound t.table.now) s slip tally _ (ap (λ (x : Closed). x.answer) e) }

@@ -8,23 +8,23 @@ use Rattle.trial.proofs.Filled.{filled}
 use Rattle.trial.proofs.Done.{status_fits, flipped_fits, odd_fits, counts_fit, few_left, is_finished}
 use Rattle.trial.proofs.trial.Trial.finish.Goals as goal
 
-pub invariant-of-self : goal.invariant-of-self
-invariant-of-self c =
+pub invariant_of-self : goal.invariant_of-self
+invariant_of-self c =
     let t = c.args.self.now in
     let q = c.args.qubit in
     let f = c.args.flip in
     let st = c.index.result.now in
-    let checks = c.checks-at-checks.result.now in
+    let checks = c.checks_at-checks.result.now in
     let is_held_lem =
-    filled t.held c.as-mut-slice.result.now c.lower-if-erased.new.held (λ l. cond (is_erased st) (lowered checks l) l) c.as-mut-slice.ensures.len c.lower-if-erased.auto.held c.as-mut-slice.ensures.value c.lower-if-erased.ensures
-    ∙ ap (λ k. cond (is_erased st) (lowered k (vec_items t.held)) (vec_items t.held)) c.checks-at-checks.ensures in
-    let is-flipped = filled t.flipped c.as-mut-slice-2.result.now c.flip-if.new.flipped (λ l. cond f (set l q (not (has l q))) l) c.as-mut-slice-2.ensures.len c.flip-if.auto.flipped c.as-mut-slice-2.ensures.value c.flip-if.ensures in
+    filled t.held c.as_mut_slice.result.now c.lower_if_erased.new.held (λ l. cond (is_erased st) (lowered checks l) l) c.as_mut_slice.ensures.len c.lower_if_erased.auto.held c.as_mut_slice.ensures.value c.lower_if_erased.ensures
+    ∙ ap (λ k. cond (is_erased st) (lowered k (vec_items t.held)) (vec_items t.held)) c.checks_at-checks.ensures in
+    let is-flipped = filled t.flipped c.as_mut_slice-2.result.now c.flip_if.new.flipped (λ l. cond f (set l q (not (has l q))) l) c.as_mut_slice-2.ensures.len c.flip_if.auto.flipped c.as_mut_slice-2.ensures.value c.flip_if.ensures in
     let is_odd =
-    filled t.odd c.as-mut-slice-3.result.now c.turn-if.new.odd (λ l. cond f (turned checks l) l) c.as-mut-slice-3.ensures.len c.turn-if.auto.odd c.as-mut-slice-3.ensures.value c.turn-if.ensures
-    ∙ ap (λ k. cond f (turned k (vec_items t.odd)) (vec_items t.odd)) c.checks-at-checks.ensures in
-    let held = vec_items (with_items t.held c.lower-if-erased.new.held) in
-    let flipped = vec_items (with_items t.flipped c.flip-if.new.flipped) in
-    let odd = vec_items (with_items t.odd c.turn-if.new.odd) in (
+    filled t.odd c.as_mut_slice-3.result.now c.turn_if.new.odd (λ l. cond f (turned checks l) l) c.as_mut_slice-3.ensures.len c.turn_if.auto.odd c.as_mut_slice-3.ensures.value c.turn_if.ensures
+    ∙ ap (λ k. cond f (turned k (vec_items t.odd)) (vec_items t.odd)) c.checks_at-checks.ensures in
+    let held = vec_items (with_items t.held c.lower_if_erased.new.held) in
+    let flipped = vec_items (with_items t.flipped c.flip_if.new.flipped) in
+    let odd = vec_items (with_items t.odd c.turn_if.new.odd) in (
       status_fits t q c.requires st c.index.ensures f flipped odd held is-flipped is_odd is_held_lem,
       (
         flipped_fits t q c.requires st c.index.ensures f flipped odd held is-flipped is_odd is_held_lem,
@@ -48,15 +48,15 @@ returns c =
     let q = c.args.qubit in
     let f = c.args.flip in
     let st = c.index.result.now in
-    let checks = c.checks-at-checks.result.now in
+    let checks = c.checks_at-checks.result.now in
     let is_held_lem =
-    filled t.held c.as-mut-slice.result.now c.lower-if-erased.new.held (λ l. cond (is_erased st) (lowered checks l) l) c.as-mut-slice.ensures.len c.lower-if-erased.auto.held c.as-mut-slice.ensures.value c.lower-if-erased.ensures
-    ∙ ap (λ k. cond (is_erased st) (lowered k (vec_items t.held)) (vec_items t.held)) c.checks-at-checks.ensures in
-    let is-flipped = filled t.flipped c.as-mut-slice-2.result.now c.flip-if.new.flipped (λ l. cond f (set l q (not (has l q))) l) c.as-mut-slice-2.ensures.len c.flip-if.auto.flipped c.as-mut-slice-2.ensures.value c.flip-if.ensures in
+    filled t.held c.as_mut_slice.result.now c.lower_if_erased.new.held (λ l. cond (is_erased st) (lowered checks l) l) c.as_mut_slice.ensures.len c.lower_if_erased.auto.held c.as_mut_slice.ensures.value c.lower_if_erased.ensures
+    ∙ ap (λ k. cond (is_erased st) (lowered k (vec_items t.held)) (vec_items t.held)) c.checks_at-checks.ensures in
+    let is-flipped = filled t.flipped c.as_mut_slice-2.result.now c.flip_if.new.flipped (λ l. cond f (set l q (not (has l q))) l) c.as_mut_slice-2.ensures.len c.flip_if.auto.flipped c.as_mut_slice-2.ensures.value c.flip_if.ensures in
     let is_odd =
-    filled t.odd c.as-mut-slice-3.result.now c.turn-if.new.odd (λ l. cond f (turned checks l) l) c.as-mut-slice-3.ensures.len c.turn-if.auto.odd c.as-mut-slice-3.ensures.value c.turn-if.ensures
-    ∙ ap (λ k. cond f (turned k (vec_items t.odd)) (vec_items t.odd)) c.checks-at-checks.ensures in
-    let held = vec_items (with_items t.held c.lower-if-erased.new.held) in
-    let flipped = vec_items (with_items t.flipped c.flip-if.new.flipped) in
-    let odd = vec_items (with_items t.odd c.turn-if.new.odd) in
+    filled t.odd c.as_mut_slice-3.result.now c.turn_if.new.odd (λ l. cond f (turned checks l) l) c.as_mut_slice-3.ensures.len c.turn_if.auto.odd c.as_mut_slice-3.ensures.value c.turn_if.ensures
+    ∙ ap (λ k. cond f (turned k (vec_items t.odd)) (vec_items t.odd)) c.checks_at-checks.ensures in
+    let held = vec_items (with_items t.held c.lower_if_erased.new.held) in
+    let flipped = vec_items (with_items t.flipped c.flip_if.new.flipped) in
+    let odd = vec_items (with_items t.odd c.turn_if.new.odd) in
     record { does = is_finished t q c.requires st c.index.ensures f flipped odd held is-flipped is_odd is_held_lem; table = refl }

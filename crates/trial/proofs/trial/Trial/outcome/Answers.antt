@@ -15,20 +15,20 @@ pub returns-then-self : goal.returns-then-self
 unfolding model
 returns-then-self c = let s = model c.args.self.now in said s true (any s.erased || any s.shelved) (any s.odds) (sym c.if-self.true) refl refl
 
-pub returns-then-some-left : goal.returns-then-some-left
+pub returns-then-some_left : goal.returns-then-some_left
 unfolding model
-returns-then-some-left c =
+returns-then-some_left c =
     let s = model c.args.self.now in
-    said s false true (any s.odds) (sym c.if-self.false) (c.if-some-left.ensures ∙ ap (λ l. any (erased_of l) || any (shelved_of l)) c.as-slice.ensures.value) refl
+    said s false true (any s.odds) (sym c.if-self.false) (c.if-some_left.ensures ∙ ap (λ l. any (erased_of l) || any (shelved_of l)) c.as_slice.ensures.value) refl
 
 pub returns-then-any : goal.returns-then-any
 unfolding model
 returns-then-any c =
-    said (model c.args.self.now) false false true (sym c.if-self.false) (c.if-some-left.ensures ∙ ap (λ l. any (erased_of l) || any (shelved_of l)) c.as-slice.ensures.value)
-    (c.if-any.ensures ∙ ap any c.as-slice-2.ensures.value)
+    said (model c.args.self.now) false false true (sym c.if-self.false) (c.if-some_left.ensures ∙ ap (λ l. any (erased_of l) || any (shelved_of l)) c.as_slice.ensures.value)
+    (c.if-any.ensures ∙ ap any c.as_slice-2.ensures.value)
 
 pub returns : goal.returns
 unfolding model
 returns c =
-    said (model c.args.self.now) false false false (sym c.if-self.false) (c.if-some-left.ensures ∙ ap (λ l. any (erased_of l) || any (shelved_of l)) c.as-slice.ensures.value)
-    (c.if-any.ensures ∙ ap any c.as-slice-2.ensures.value)
+    said (model c.args.self.now) false false false (sym c.if-self.false) (c.if-some_left.ensures ∙ ap (λ l. any (erased_of l) || any (shelved_of l)) c.as_slice.ensures.value)
+    (c.if-any.ensures ∙ ap any c.as_slice-2.ensures.value)

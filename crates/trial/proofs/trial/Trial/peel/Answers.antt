@@ -19,30 +19,30 @@ pub unreachable-requires : goal.unreachable-requires
 unfolding model
 unreachable-requires c =
     let t = c.args.self.now in
-    some_erased t c.args.slip.now.number c.args.check c.in-default.ensures (c.in-default-erased-among.ensures ∙ ap₂ (λ l r. first_in (erased_of l) r) c.as-slice.ensures.value c.row-row.ensures)
+    some_erased t c.args.slip.now.number c.args.check c.in_default.ensures (c.in_default-erased_among.ensures ∙ ap₂ (λ l r. first_in (erased_of l) r) c.as_slice.ensures.value c.row-row.ensures)
 
 pub finish-requires : goal.finish-requires
 unfolding model
 finish-requires c =
     let t = c.args.self.now in
-    is_qubit t c.args.slip.now.number c.args.check c.in-default.ensures c.in-Some-erased-among.qubit
-    (c.in-Some-erased-among.ensures ∙ ap₂ (λ l r. first_in (erased_of l) r) c.as-slice.ensures.value c.row-row.ensures)
+    is_qubit t c.args.slip.now.number c.args.check c.in_default.ensures c.in-Some-erased_among.qubit
+    (c.in-Some-erased_among.ensures ∙ ap₂ (λ l r. first_in (erased_of l) r) c.as_slice.ensures.value c.row-row.ensures)
 
-pub overflow-add-self : goal.overflow-add-self
-overflow-add-self c =
+pub overflow_add-self : goal.overflow_add-self
+overflow_add-self c =
     let u = c.finish.new.self in
     omega (arith, u.few, (table_sound u.table.now).few_qubits)
 
-pub invariant-of-self : goal.invariant-of-self
+pub invariant_of-self : goal.invariant_of-self
 unfolding model
-invariant-of-self c =
+invariant_of-self c =
     let t = c.args.self.now in
     let u = c.finish.new.self in
     let slip = c.args.slip.now.number in
     let k = c.args.check in
-    let q = c.in-Some-erased-among.qubit in
-    let found = c.in-Some-erased-among.ensures ∙ ap₂ (λ l r. first_in (erased_of l) r) c.as-slice.ensures.value c.row-row.ensures in
-    let more = room t u q _ (is_qubit t slip k c.in-default.ensures q found) (erased_is t slip k c.in-default.ensures q found) c.finish.ensures.does c.finish.ensures.table in
+    let q = c.in-Some-erased_among.qubit in
+    let found = c.in-Some-erased_among.ensures ∙ ap₂ (λ l r. first_in (erased_of l) r) c.as_slice.ensures.value c.row-row.ensures in
+    let more = room t u q _ (is_qubit t slip k c.in_default.ensures q found) (erased_is t slip k c.in_default.ensures q found) c.finish.ensures.does c.finish.ensures.table in
     (u.status_fit, (u.flipped_fit, (u.closed_fit, (u.odd_fit, (u.counts_fit, (omega (arith, more), tt))))))
 
 pub returns : goal.returns
@@ -52,8 +52,8 @@ returns c =
     let u = c.finish.new.self in
     let slip = c.args.slip.now.number in
     let k = c.args.check in
-    let q = c.in-Some-erased-among.qubit in
-    let found = c.in-Some-erased-among.ensures ∙ ap₂ (λ l r. first_in (erased_of l) r) c.as-slice.ensures.value c.row-row.ensures in
-    let low : k < length (vec_items t.odd) = omega (arith, is_check t slip k c.in-default.ensures, t.odd_fit) in
+    let q = c.in-Some-erased_among.qubit in
+    let found = c.in-Some-erased_among.ensures ∙ ap₂ (λ l r. first_in (erased_of l) r) c.as_slice.ensures.value c.row-row.ensures in
+    let low : k < length (vec_items t.odd) = omega (arith, is_check t slip k c.in_default.ensures, t.odd_fit) in
     let odd = get_or_read (vec_items t.odd) k c.index-flip.result.now low c.index-flip.ensures false in
-    record { does = peels t slip k c.in-default.ensures q found (model u) c.index-flip.result.now odd c.finish.ensures.does; table = c.finish.ensures.table }
+    record { does = peels t slip k c.in_default.ensures q found (model u) c.index-flip.result.now odd c.finish.ensures.does; table = c.finish.ensures.table }

@@ -12,20 +12,20 @@ returns-in-Some c =
     let t = c.args.self.now in
     record { does = sym (fault_some (model t) _ (prune_bars (code t) (model t) c.args.slip.now.number c.args.qubit c.args.generators.now) c.in-Some.refusal c.in-Some.ensures); table = refl }
 
-pub overflow-add-self : goal.overflow-add-self
-overflow-add-self c =
+pub overflow_add-self : goal.overflow_add-self
+overflow_add-self c =
     let u = c.finish.new.self in
     omega (arith, u.few, (table_sound u.table.now).few_qubits)
 
-pub invariant-of-self : goal.invariant-of-self
+pub invariant_of-self : goal.invariant_of-self
 unfolding model
-invariant-of-self c =
+invariant_of-self c =
     let t = c.args.self.now in
     let u = c.finish.new.self in
     let slip = c.args.slip.now.number in
     let q = c.args.qubit in
     let l = c.args.generators.now in
-    let more = room t u q _ (is_qubit t slip q l c.in-default.ensures) (erased_is t slip q l c.in-default.ensures) c.finish.ensures.does c.finish.ensures.table in
+    let more = room t u q _ (is_qubit t slip q l c.in_default.ensures) (erased_is t slip q l c.in_default.ensures) c.finish.ensures.does c.finish.ensures.table in
     (u.status_fit, (u.flipped_fit, (u.closed_fit, (u.odd_fit, (u.counts_fit, (omega (arith, more), tt))))))
 
 pub returns : goal.returns
@@ -34,4 +34,4 @@ returns c =
     let t = c.args.self.now in
     let u = c.finish.new.self in
     let slip = c.args.slip.now.number in
-    record { does = prunes t slip c.args.qubit c.args.generators.now c.in-default.ensures (model u) c.finish.ensures.does; table = c.finish.ensures.table }
+    record { does = prunes t slip c.args.qubit c.args.generators.now c.in_default.ensures (model u) c.finish.ensures.does; table = c.finish.ensures.table }

@@ -29,48 +29,48 @@ returns-then-self c =
     let l = c.args.generators.now in
     let bars = prune_bars (code t) (model t) c.args.slip.now.number q l in
     let there = is_there q (qubits (code t)) c.qubits.result c.qubits.ensures c.if-qubit-qubits.false in
-    let named = all_named l (length (code t).generators) c.generators.result c.generators.ensures c.if-some-past.ensures in
+    let named = all_named l (length (code t).generators) c.generators.result c.generators.ensures c.if-some_past.ensures in
     let few = is_few l c.if-generators-eq0.false c.if-generators-gt4.false in
     fault_at 3 bars (is_void (model t)) (lit< tt) (there, (named, (few, tt))) c.if-self.true
 
-pub returns-then-some-outside : goal.returns-then-some-outside
+pub returns-then-some_outside : goal.returns-then-some_outside
 unfolding model
-returns-then-some-outside c =
+returns-then-some_outside c =
     let t = c.args.self.now in
     let q = c.args.qubit in
     let l = c.args.generators.now in
     let bars = prune_bars (code t) (model t) c.args.slip.now.number q l in
     let there = is_there q (qubits (code t)) c.qubits.result c.qubits.ensures c.if-qubit-qubits.false in
-    let named = all_named l (length (code t).generators) c.generators.result c.generators.ensures c.if-some-past.ensures in
+    let named = all_named l (length (code t).generators) c.generators.result c.generators.ensures c.if-some_past.ensures in
     let few = is_few l c.if-generators-eq0.false c.if-generators-gt4.false in
-    let outside = sym (c.if-some-outside.ensures ∙ ap (λ s. some_outside (code t).generators (erased_of s) l) c.as-slice.ensures.value) in
+    let outside = sym (c.if-some_outside.ensures ∙ ap (λ s. some_outside (code t).generators (erased_of s) l) c.as_slice.ensures.value) in
     fault_at 4 bars (is_void (model t)) (lit< tt) (there, (named, (few, (c.if-self.false, tt)))) outside
 
-pub returns-then-not-is-named-oddly : goal.returns-then-not-is-named-oddly
+pub returns-then-not-is_named_oddly : goal.returns-then-not-is_named_oddly
 unfolding model
-returns-then-not-is-named-oddly c =
+returns-then-not-is_named_oddly c =
     let t = c.args.self.now in
     let q = c.args.qubit in
     let l = c.args.generators.now in
     let bars = prune_bars (code t) (model t) c.args.slip.now.number q l in
     let there = is_there q (qubits (code t)) c.qubits.result c.qubits.ensures c.if-qubit-qubits.false in
-    let named = all_named l (length (code t).generators) c.generators.result c.generators.ensures c.if-some-past.ensures in
+    let named = all_named l (length (code t).generators) c.generators.result c.generators.ensures c.if-some_past.ensures in
     let few = is_few l c.if-generators-eq0.false c.if-generators-gt4.false in
-    let outside = sym (c.if-some-outside.ensures ∙ ap (λ s. some_outside (code t).generators (erased_of s) l) c.as-slice.ensures.value) in
-    fault_at 5 bars (is_void (model t)) (lit< tt) (there, (named, (few, (c.if-self.false, (outside, tt))))) (ap not (sym c.if-not-is-named-oddly.ensures))
+    let outside = sym (c.if-some_outside.ensures ∙ ap (λ s. some_outside (code t).generators (erased_of s) l) c.as_slice.ensures.value) in
+    fault_at 5 bars (is_void (model t)) (lit< tt) (there, (named, (few, (c.if-self.false, (outside, tt))))) (ap not (sym c.if-not-is_named_oddly.ensures))
 
-pub returns-then-not-is-shown : goal.returns-then-not-is-shown
+pub returns-then-not-is_shown : goal.returns-then-not-is_shown
 unfolding model
-returns-then-not-is-shown c =
+returns-then-not-is_shown c =
     let t = c.args.self.now in
     let q = c.args.qubit in
     let l = c.args.generators.now in
     let bars = prune_bars (code t) (model t) c.args.slip.now.number q l in
     let there = is_there q (qubits (code t)) c.qubits.result c.qubits.ensures c.if-qubit-qubits.false in
-    let named = all_named l (length (code t).generators) c.generators.result c.generators.ensures c.if-some-past.ensures in
+    let named = all_named l (length (code t).generators) c.generators.result c.generators.ensures c.if-some_past.ensures in
     let few = is_few l c.if-generators-eq0.false c.if-generators-gt4.false in
-    let outside = sym (c.if-some-outside.ensures ∙ ap (λ s. some_outside (code t).generators (erased_of s) l) c.as-slice.ensures.value) in
-    fault_at 6 bars (is_void (model t)) (lit< tt) (there, (named, (few, (c.if-self.false, (outside, (ap not (sym c.if-not-is-named-oddly.ensures), tt)))))) (ap not (sym c.if-not-is-shown.ensures))
+    let outside = sym (c.if-some_outside.ensures ∙ ap (λ s. some_outside (code t).generators (erased_of s) l) c.as_slice.ensures.value) in
+    fault_at 6 bars (is_void (model t)) (lit< tt) (there, (named, (few, (c.if-self.false, (outside, (ap not (sym c.if-not-is_named_oddly.ensures), tt)))))) (ap not (sym c.if-not-is_shown.ensures))
 
 pub returns : goal.returns
 unfolding model
@@ -80,7 +80,7 @@ returns c =
     let l = c.args.generators.now in
     let bars = prune_bars (code t) (model t) c.args.slip.now.number q l in
     let there = is_there q (qubits (code t)) c.qubits.result c.qubits.ensures c.if-qubit-qubits.false in
-    let named = all_named l (length (code t).generators) c.generators.result c.generators.ensures c.if-some-past.ensures in
+    let named = all_named l (length (code t).generators) c.generators.result c.generators.ensures c.if-some_past.ensures in
     let few = is_few l c.if-generators-eq0.false c.if-generators-gt4.false in
-    let outside = sym (c.if-some-outside.ensures ∙ ap (λ s. some_outside (code t).generators (erased_of s) l) c.as-slice.ensures.value) in
-    clear_fault bars (there, (named, (few, (c.if-self.false, (outside, (ap not (sym c.if-not-is-named-oddly.ensures), (ap not (sym c.if-not-is-shown.ensures), tt)))))))
+    let outside = sym (c.if-some_outside.ensures ∙ ap (λ s. some_outside (code t).generators (erased_of s) l) c.as_slice.ensures.value) in
+    clear_fault bars (there, (named, (few, (c.if-self.false, (outside, (ap not (sym c.if-not-is_named_oddly.ensures), (ap not (sym c.if-not-is_shown.ensures), tt)))))))

@@ -7,10 +7,10 @@ pub returns : goal.returns
 unfolding model
 returns c =
     let t = c.args.self.now in
-    let status = c.as-slice.ensures.value in
-    let flipped = c.as-slice-2.ensures.value in
-    let closed = c.as-slice-3.ensures.value in
-    let odd = c.as-slice-4.ensures.value in
+    let status = c.as_slice.ensures.value in
+    let flipped = c.as_slice-2.ensures.value in
+    let closed = c.as_slice-3.ensures.value in
+    let odd = c.as_slice-4.ensures.value in
     λ i.
     record {
       erased = erased_of (status i);

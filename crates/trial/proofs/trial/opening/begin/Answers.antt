@@ -5,9 +5,9 @@ use Rattle.trial.proofs.trial.opening.begin.Goals as goal
 pub returns : goal.returns
 returns c =
     record {
-      erases = c.in-ok-status.ensures.0;
-      unflipped = c.in-ok-flipped.ensures.items-if-clones-equal (λ y e. e) ∙ ap (λ k. replicate k false) c.qubits.ensures;
-      unclosed = c.in-ok-closed.ensures.items-if-clones-equal (λ y e. e) ∙ ap (λ k. replicate k false) c.checks.ensures;
-      marks = c.in-ok-odd.ensures ∙ ap (λ k. marked c.args.odd.now (replicate k false)) c.checks-2.ensures;
-      counts = c.in-ok-status.ensures.1;
+      erases = c.in_ok-status.ensures.0;
+      unflipped = c.in_ok-flipped.ensures.items-if-clones-equal (λ y e. e) ∙ ap (λ k. replicate k false) c.qubits.ensures;
+      unclosed = c.in_ok-closed.ensures.items-if-clones-equal (λ y e. e) ∙ ap (λ k. replicate k false) c.checks.ensures;
+      marks = c.in_ok-odd.ensures ∙ ap (λ k. marked c.args.odd.now (replicate k false)) c.checks-2.ensures;
+      counts = c.in_ok-status.ensures.1;
     }

@@ -12,12 +12,12 @@ use Rattle.upkeep.proofs.Opened.{erased_none}
 use Rattle.trial.proofs.Filled.{filled}
 use Rattle.trial.proofs.trial.opening.erasures.Goals as goal
 
-pub erase-all-requires : goal.erase-all-requires
-erase-all-requires c =
+pub erase_all-requires : goal.erase_all-requires
+erase_all-requires c =
     let M = meaning_of c.args.table.now in
     let n = qubits M in
-    let status = c.as-mut-slice.ensures.value ∙ c.in-ok-status.ensures.items-if-clones-equal (λ y e. e) ∙ ap (λ k. replicate k Done) c.qubits.ensures in
-    let held = c.as-mut-slice-2.ensures.value ∙ c.in-ok-held.ensures.items-if-clones-equal (λ y e. e) ∙ ap (λ k. replicate k 0) c.checks.ensures in
+    let status = c.as_mut_slice.ensures.value ∙ c.in_ok-status.ensures.items-if-clones-equal (λ y e. e) ∙ ap (λ k. replicate k Done) c.qubits.ensures in
+    let held = c.as_mut_slice-2.ensures.value ∙ c.in_ok-held.ensures.items-if-clones-equal (λ y e. e) ∙ ap (λ k. replicate k 0) c.checks.ensures in
     record {
       known = c.requires;
       fit = ap length status ∙ length-replicate n Done;
@@ -27,10 +27,10 @@ erase-all-requires c =
 pub returns : goal.returns
 returns c =
     let M = meaning_of c.args.table.now in
-    let status = c.in-ok-status.status in
-    let held = c.in-ok-held.held in (
-      filled status c.as-mut-slice.result.now c.erase-all.new.status (changed Done (λ _. Erased) c.args.lost.now) c.as-mut-slice.ensures.len c.erase-all.auto.status c.as-mut-slice.ensures.value c.erase-all.ensures.erases
-          ∙ ap (changed Done (λ _. Erased) c.args.lost.now) (c.in-ok-status.ensures.items-if-clones-equal (λ y e. e) ∙ ap (λ k. replicate k Done) c.qubits.ensures),
-      with_items_is held c.erase-all.new.held (c.erase-all.auto.held ∙ c.as-mut-slice-2.ensures.len) ∙ c.erase-all.ensures.counts
-          ∙ ap (λ l. counts_in M.checks (erased_of l)) (sym (with_items_is status c.erase-all.new.status (c.erase-all.auto.status ∙ c.as-mut-slice.ensures.len))),
+    let status = c.in_ok-status.status in
+    let held = c.in_ok-held.held in (
+      filled status c.as_mut_slice.result.now c.erase_all.new.status (changed Done (λ _. Erased) c.args.lost.now) c.as_mut_slice.ensures.len c.erase_all.auto.status c.as_mut_slice.ensures.value c.erase_all.ensures.erases
+          ∙ ap (changed Done (λ _. Erased) c.args.lost.now) (c.in_ok-status.ensures.items-if-clones-equal (λ y e. e) ∙ ap (λ k. replicate k Done) c.qubits.ensures),
+      with_items_is held c.erase_all.new.held (c.erase_all.auto.held ∙ c.as_mut_slice-2.ensures.len) ∙ c.erase_all.ensures.counts
+          ∙ ap (λ l. counts_in M.checks (erased_of l)) (sym (with_items_is status c.erase_all.new.status (c.erase_all.auto.status ∙ c.as_mut_slice.ensures.len))),
     )

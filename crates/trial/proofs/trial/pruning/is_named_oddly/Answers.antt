@@ -22,8 +22,8 @@ loop-g-preserved c =
     let l = c.args.generators.now in
     let i = c.loop-g.g-index in
     let q = c.args.qubit in
-    let holders = c.generators-at-holders.result.now in
-    let holds = contains_among holders (get_or l i 0) c.contains-odd.result c.contains-odd.ensures.cases ∙ ap (among (get_or l i 0)) c.generators-at-holders.ensures ∙ holders_named M.generators q (get_or l i 0) in
+    let holders = c.generators_at-holders.result.now in
+    let holds = contains_among holders (get_or l i 0) c.contains-odd.result c.contains-odd.ensures.cases ∙ ap (among (get_or l i 0)) c.generators_at-holders.ensures ∙ holders_named M.generators q (get_or l i 0) in
     oddly_more M q (get_or l i 0) (drop (i + 1) l) c.loop-g.odd c.contains-odd.result holds
     ∙ sym (at_drop_more (λ k. flip c.loop-g.odd (has (product M k) q)) l i 0 c.loop-g-test.true) ∙ c.loop-g.invariant
 

@@ -34,14 +34,14 @@ outside_more t status l fit named i low all told is-told is_all =
     (is_all ∙ ap (all_in (erased_of status)) is-told ∙ told_within t status fit (get_or l i 0) (past_at (length (meaning_of t).generators) l named i low))
     ∙ sym (at_drop_more (some_outside (meaning_of t).generators (erased_of status)) l i 0 low)
 
-pub returns-then-not-all-erased : goal.returns-then-not-all-erased
-returns-then-not-all-erased c =
-    outside_more c.args.table.now c.args.status.now c.args.generators.now c.requires.fit c.requires.named c.loop-g.g-index c.loop-g-test.true false c.row.result.now c.row.ensures c.if-not-all-erased.ensures
+pub returns-then-not-all_erased : goal.returns-then-not-all_erased
+returns-then-not-all_erased c =
+    outside_more c.args.table.now c.args.status.now c.args.generators.now c.requires.fit c.requires.named c.loop-g.g-index c.loop-g-test.true false c.row.result.now c.row.ensures c.if-not-all_erased.ensures
     ∙ c.loop-g.invariant
 
 pub loop-g-preserved : goal.loop-g-preserved
 loop-g-preserved c =
-    outside_more c.args.table.now c.args.status.now c.args.generators.now c.requires.fit c.requires.named c.loop-g.g-index c.loop-g-test.true true c.row.result.now c.row.ensures c.if-not-all-erased.ensures
+    outside_more c.args.table.now c.args.status.now c.args.generators.now c.requires.fit c.requires.named c.loop-g.g-index c.loop-g-test.true true c.row.result.now c.row.ensures c.if-not-all_erased.ensures
     ∙ c.loop-g.invariant
 
 pub returns : goal.returns

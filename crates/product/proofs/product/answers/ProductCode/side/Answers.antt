@@ -9,8 +9,8 @@ use Rattle.product.specs.Stands.{is_seed}
 use Rattle.product.proofs.Entries.{pairs_low}
 use Rattle.product.proofs.product.answers.ProductCode.side.Goals as goal
 
-pub overflow-add-pairs : goal.overflow-add-pairs
-overflow-add-pairs c =
+pub overflow_add-pairs : goal.overflow_add-pairs
+overflow_add-pairs c =
     let p = c.args.self.now in
     omega (arith, pairs_low p.columns p.columns p.few_columns p.few_columns, pairs_low p.rows p.rows p.few_rows p.few_rows)
 

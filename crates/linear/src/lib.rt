@@ -1,5 +1,7 @@
 //! Linear algebra over any finite field, proved from the field's laws: rows go into a basis in echelon form, which tells all solutions of a system,
 //! the least of them and their number. Definitions stand in specs/, and each function here promises one theorem about them.
+#![tactic(auto)]
+
 ghost use Rattle.linear.specs.Theorems.{InsertionKeeps, InsertionGrows, Independence, RowsAbsorbed, AllListed, Counted, LeastSolves, LeastFirst, LeastAlone, SystemTold, Compressed, BitsAreSubsets, ThreeValues, OneNumber, AlongBijection, PairsMultiply};
 
 /// What solves a basis after a row went into it is what solved it before and meets the row; a new row uses up one free column.

@@ -1,4 +1,6 @@
 //! Marks in scratch bytes, and a guard that clears them again on every way out.
+#![tactic(auto)]
+
 ghost use Rattle.std.specs.Prelude.{◌≡◌, ◌||◌, length, nat_le};
 ghost use Rattle.marks.specs.Marks.{scratch_fault, is_marked, with_mark, cleared, Restores};
 

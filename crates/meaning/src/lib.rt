@@ -1,4 +1,6 @@
 //! What codes mean: definitions in specs/, and what is proved of them in proofs/.
+#![tactic(auto)]
+
 ghost use Rattle.meaning.specs.Codes.{ProductSound, ProductTells, ListedSound, ListedTells, TurnedSound, TurnedTells, ToldCounts};
 
 /// The product code of any seed is sound, and the stated order of its rows names each qubit of a row once.

@@ -1,4 +1,6 @@
 //! The rules of trials, and the law about lists of calls: definitions stand in specs/, and each function here promises one theorem about them.
+#![tactic(auto)]
+
 pub mod answers;
 
 ghost use Rattle.rules.specs.Law.{Law, LawAfter, LiberalLaw};

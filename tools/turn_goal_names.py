@@ -35,7 +35,7 @@ def names_of_sources():
 
 def main(crates):
     olds = sorted(names_of_sources(), key=len, reverse=True)
-    pattern = re.compile(r"(?<![^-])(%s)(?![^-])" % "|".join(re.escape(n.replace("_", "-")) for n in olds))
+    pattern = re.compile(r"(?<![^-+])(%s)(?![^-+])" % "|".join(re.escape(n.replace("_", "-")) for n in olds))
     new = {n.replace("_", "-"): n for n in olds}
     for crate in crates or sorted(os.listdir("crates")):
         for folder, dirs, names in os.walk(os.path.join("crates", crate, "proofs")):

@@ -1,4 +1,6 @@
 //! The interface of a code: the questions that it answers, and what the answers mean.
+#![tactic(auto)]
+
 ghost use Rattle.std.specs.Prelude.{◌≡◌, ℕ, List, ◌++◌, length, is_ok, if◌then◌else◌};
 ghost use Rattle.terms.specs.declared.row.Row.{Row as RowT};
 ghost use Rattle.meaning.specs.Meaning.{Meaning, Sound, qubits};

@@ -3,6 +3,8 @@
 //! `product r n a b ..`, `listed` with a count and the sides, a count and the checks, a count and the generators (each row as its length and its
 //! qubits), and `turned` make the code that is held from then on, and answer `ok` with its three sizes or `refused` with a number. A refused
 //! making keeps the code that was held. `side q`, `check_size k`, `generator_size k`, `check_qubit k i` and `generator_qubit k i` ask it.
+#![tactic(auto)]
+
 mod held;
 mod reading;
 

@@ -1,2 +1,4 @@
 //! Whole trials: from a report to a verdict.
+#![tactic(auto)]
+
 pub mod peeling;

@@ -26,8 +26,8 @@ pub fn decode_by_peeling<C: Code>(
     checks: &[u16],
     tally: &mut Tally,
 ) -> Result<Verdict, Refusal>
-    ensures does { Decides result (tally_of tally.old) (tally_of tally.new) (decided (meaning code.now) (tally_of tally.old) lost.now odd.now checks.now) }
-    ensures truth { TrueAfter (meaning code.now) (tally_of tally.old) lost.now odd.now checks.now result }
+    ensures does { Decides result (tally_of tally.old) (tally_of tally.new) (decided (C.meaning code.now) (tally_of tally.old) lost.now odd.now checks.now) }
+    ensures truth { TrueAfter (C.meaning code.now) (tally_of tally.old) lost.now odd.now checks.now result }
 {
     let table = Table::of(heap, code)?;
     peel_and_close(heap, &table, lost, odd, checks, tally)

@@ -1,5 +1,7 @@
 //! Elimination over at most 256 unknowns, in tables that are made once and used again. A check is written coefficient by coefficient and then added;
 //! what has been added tells whether there is a solution, the least one, the slack, and whether a further check is independent.
+#![tactic(auto)]
+
 ghost use Rattle.std.specs.Prelude.{◌≡◌, ◌≤◌, vec_len};
 
 mod asking;

@@ -1,4 +1,6 @@
 //! Elimination over bits for a host: a system in, its slack out. The benchmark calls it.
+#![tactic(auto)]
+
 ghost use Rattle.elimination_export.specs.Stream.{Tells};
 
 use elimination::Elimination;

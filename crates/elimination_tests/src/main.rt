@@ -1,4 +1,6 @@
 //! Plays systems to elimination and counts where its answers differ from those of plain enumeration.
+#![tactic(auto)]
+
 mod played;
 mod small;
 

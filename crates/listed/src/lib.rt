@@ -1,4 +1,6 @@
 //! A code from the caller's tables: the qubits of each row and the side of each qubit, listed.
+#![tactic(auto)]
+
 ghost use Rattle.std.specs.Prelude.{◌≡◌, false, is_some};
 ghost use Rattle.rows.specs.Read.{rows_of};
 ghost use Rattle.listed.specs.Fault.{listed_fault};

@@ -1,5 +1,7 @@
 //! Prints the grid names of a product code beside the stored numbers. Arguments: the seed's numbers of rows and columns, and then row and column
 //! of each of its ones.
+#![tactic(auto)]
+
 use anyhow::anyhow;
 use naming::texts::{names, places_in, refusal_line};
 use std::alloc::Global;

@@ -29,8 +29,8 @@ pub(crate) fn append_qubits(out: &mut String, letter: &str, first: u16, width: u
 
 /// Appends the qubits of a row in the order told.
 fn append_told<C: Code>(out: &mut String, code: &C, row: Row) -> fmt::Result
-    requires { is_row (meaning code.now) row ≡ true }
-    ensures { OnOk result (string_bytes out.new ≡ string_bytes out.old ++ flat_map told_qubit (told code.now row)) }
+    requires { is_row (C.meaning code.now) row ≡ true }
+    ensures { OnOk result (string_bytes out.new ≡ string_bytes out.old ++ flat_map told_qubit (C.told code.now row)) }
 {
     let Some(len) = code.row_len(row) else {
         return unreachable();
@@ -46,8 +46,8 @@ fn append_told<C: Code>(out: &mut String, code: &C, row: Row) -> fmt::Result
 
 /// Appends a row's name and its qubits.
 fn append_row<C: Code>(out: &mut String, code: &C, kind: Kind, width: u16, k: u16) -> fmt::Result
-    requires { (is_row (meaning code.now) (row_of kind k) ≡ true) × (1 ≤ width) }
-    ensures { OnOk result (string_bytes out.new ≡ string_bytes out.old ++ row_line (told code.now) kind width k) }
+    requires { (is_row (C.meaning code.now) (row_of kind k) ≡ true) × (1 ≤ width) }
+    ensures { OnOk result (string_bytes out.new ≡ string_bytes out.old ++ row_line (C.told code.now) kind width k) }
 {
     append_name(out, kind.word(), k / width, k % width, k, " :")?;
     append_told(out, code, kind.row(k))?;
@@ -63,8 +63,8 @@ pub(crate) fn append_rows<C: Code>(
     width: u16,
     count: u16,
 ) -> fmt::Result
-    requires { (((k : ℕ) → k < count → is_row (meaning code.now) (row_of kind k) ≡ true)) × (1 ≤ width) }
-    ensures { OnOk result (string_bytes out.new ≡ string_bytes out.old ++ row_lines (told code.now) kind width count) }
+    requires { (((k : ℕ) → k < count → is_row (C.meaning code.now) (row_of kind k) ≡ true)) × (1 ≤ width) }
+    ensures { OnOk result (string_bytes out.new ≡ string_bytes out.old ++ row_lines (C.told code.now) kind width count) }
 {
     for k in 0..count {
         append_row(out, code, kind, width, k)?;

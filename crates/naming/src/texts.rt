@@ -38,9 +38,9 @@ pub fn names(heap: Global, rows: u16, columns: u16, places: &[Place]) -> Result<
 /// Appends all names of a code over a grid of the given sizes.
 fn append_names<C: Code>(out: &mut String, code: &C, rows: u16, columns: u16) -> fmt::Result
     requires sizes { (1 ≤ rows) × (rows ≤ 32) × (1 ≤ columns) × (columns ≤ 32) }
-    requires checks { length (meaning code.now).checks ≡ columns * rows }
-    requires generators { length (meaning code.now).generators ≡ rows * columns }
-    ensures { OnOk result (string_bytes out.new ≡ string_bytes out.old ++ names_text rows columns (told code.now)) }
+    requires checks { length (C.meaning code.now).checks ≡ columns * rows }
+    requires generators { length (C.meaning code.now).generators ≡ rows * columns }
+    ensures { OnOk result (string_bytes out.new ≡ string_bytes out.old ++ names_text rows columns (C.told code.now)) }
 {
     append_qubits(out, "b", 0, columns)?;
     append_qubits(out, "a", columns * columns, rows)?;

@@ -1,4 +1,6 @@
 //! The product code of a seed.
+#![tactic(auto)]
+
 mod part;
 pub mod place;
 pub mod product;

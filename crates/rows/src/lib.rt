@@ -1,4 +1,6 @@
 //! Rows of numbers, kept end to end.
+#![tactic(auto)]
+
 ghost use Rattle.std.specs.Prelude.{ℕ, ◌+◌, ◌<◌, ◌≤◌, length, slice_index_or};
 ghost use Rattle.rows.specs.Cut.{none};
 

@@ -1,4 +1,6 @@
 //! Sets of numbers as masks, lists, and bits: definitions in specs/, and what is proved of them in proofs/.
+#![tactic(auto)]
+
 ghost use Rattle.sets.specs.Counts.{ToldOnce};
 
 /// A list without repeats that names exactly the elements of a set is as long as the set is large.

@@ -1,4 +1,6 @@
 //! Last in, first out, over a slice of any copyable element: of the slots, the first `len` are held, and the last of these is on top.
+#![tactic(auto)]
+
 ghost use Rattle.std.specs.Prelude.{◌≡◌, ◌+◌, ◌&&◌, [], ◌∷◌, ◌++◌, length, take, is_some, if◌then◌else◌, nat_le, nat_lt, slice_set};
 ghost use Rattle.std.specs.Option.{option_to_list};
 

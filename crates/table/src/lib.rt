@@ -1,4 +1,6 @@
 //! Any code as plain tables, each question asked once.
+#![tactic(auto)]
+
 ghost use Rattle.std.specs.Prelude.{◌≡◌, length};
 ghost use Rattle.meaning.specs.Listed.{listed_told};
 ghost use Rattle.meaning.specs.Meaning.{Sound};

@@ -15,7 +15,7 @@ use terms::refusal::Refusal;
 impl Table {
     /// The table of a code. Refuses only for want of memory.
     pub fn of<C: Code>(heap: Global, code: &C) -> Result<Table, Refusal>
-        ensures { AnswersIfMemory result None (λ t. (meaning_of t ≡ meaning code.now) × ((row : RowT) → is_row (meaning code.now) row ≡ true → told_of t row ≡ told code.now row)) }
+        ensures { AnswersIfMemory result None (λ t. (meaning_of t ≡ C.meaning code.now) × ((row : RowT) → is_row (C.meaning code.now) row ≡ true → told_of t row ≡ C.told code.now row)) }
     {
         let sides = sides(heap, code)?;
         let checks = check_rows(heap, code)?;

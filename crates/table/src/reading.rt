@@ -13,7 +13,7 @@ use terms::row::{Row, Side};
 
 /// The side of each qubit.
 pub(crate) fn sides<C: Code>(heap: Global, code: &C) -> Result<Vec<Side>, AllocError>
-    ensures { IfOk result (λ v. v.items ≡ map side_of (meaning code.now).sides) }
+    ensures { IfOk result (λ v. v.items ≡ map side_of (C.meaning code.now).sides) }
 {
     let qubits = code.qubits();
     let mut sides = Vec::with_capacity(heap, qubits as usize)?;
@@ -28,7 +28,7 @@ pub(crate) fn sides<C: Code>(heap: Global, code: &C) -> Result<Vec<Side>, AllocE
 
 /// The qubits of each check, in the order told. (The generators are the checks of the turned code.)
 pub(crate) fn check_rows<C: Code>(heap: Global, code: &C) -> Result<Rows, AllocError>
-    ensures { IfOk result (λ t. rows_of t ≡ map (λ k. told code.now (Check k)) (range_with_len 0 (length (meaning code.now).checks))) }
+    ensures { IfOk result (λ t. rows_of t ≡ map (λ k. C.told code.now (Check k)) (range_with_len 0 (length (C.meaning code.now).checks))) }
 {
     let mut rows = Rows::new(heap);
     let mut row = Vec::new(heap);
@@ -41,8 +41,8 @@ pub(crate) fn check_rows<C: Code>(heap: Global, code: &C) -> Result<Rows, AllocE
 
 /// The qubits of a row of the code, in place of what the buffer held.
 fn read_row<C: Code>(code: &C, row: Row, buffer: &mut Vec<u16>) -> Result<(), AllocError>
-    requires { is_row (meaning code.now) row ≡ true }
-    ensures { OnOk result (buffer.new.items ≡ told code.now row) }
+    requires { is_row (C.meaning code.now) row ≡ true }
+    ensures { OnOk result (buffer.new.items ≡ C.told code.now row) }
 {
     let Some(len) = code.row_len(row) else {
         return unreachable();

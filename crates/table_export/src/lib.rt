@@ -1,4 +1,6 @@
 //! Tables of product codes for a host: a seed in, the number of qubits out. The benchmark calls it.
+#![tactic(auto)]
+
 ghost use Rattle.meaning.specs.Meaning.{qubits};
 ghost use Rattle.product.specs.OfProduct.{meaning_of};
 ghost use Rattle.table_export.specs.Seeds.{Counts, Tells};

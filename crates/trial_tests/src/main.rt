@@ -12,6 +12,8 @@
 //!   `copy_out TRIAL LEN FILL`: all bytes of a buffer of that length, filled with that byte before.
 //!
 //! After the answer to a call comes all of its trial, and the counts of its tally. A further call is a further word in `Bench::play`.
+#![tactic(auto)]
+
 mod bench;
 mod calling;
 mod codes;

@@ -1,4 +1,6 @@
 //! Values of a finite field, and rows of them. The field is a ghost member of the trait `Value`: bits are one field, and every function here stands for any other.
+#![tactic(auto)]
+
 ghost use Rattle.std.specs.Prelude.{◌≡◌, map, length, replicate, IfOk, ◌≢◌};
 ghost use Rattle.linear.specs.Field.{Field, bits};
 ghost use Rattle.linear.specs.Basis.{mix, dot as dotOf};

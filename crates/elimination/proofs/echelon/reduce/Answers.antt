@@ -3,7 +3,7 @@ use prog.Memory.{size}
 use denote.Param.{layout}
 use Rattle.elimination.proofs.Steps.{fits, At, at_skip, at_add, stopped, ended_reduced}
 use Rattle.elimination.proofs.echelon.reduce.Goals as goal
-use Rattle.elimination.proofs.echelon.reduce.Goals.{then-not-is-zero+else-is_zero, else-not-is_zero}
+use Rattle.elimination.proofs.echelon.reduce.Goals.{then-not-is_zero+else-is_zero, else-not-is_zero}
 
 pub offset_bounds-table-at : goal.offset_bounds-table-at
 offset_bounds-table-at g c =
@@ -44,7 +44,7 @@ loop-j-preserved g c =
     let T = c.args.table.now in
     let n : length c.loop-j.row ≡ c.args.width + 1 = c.loop-j.auto.row ∙ c.requires.row in
     elim c.if-not-is_zero.branch [
-      | then-not-is-zero+else-is_zero v ↦
+      | then-not-is_zero+else-is_zero v ↦
           let x = v.plus.result in
           let m : ℕ = length (set c.loop-j.row 0 x) - (j + 2) in
           let p : ℕ = (j * (w + 1) + (w + 1)) - (j * (w + 1) + j + 2) in

@@ -4,7 +4,7 @@ use Rattle.sets.proofs.Bits.{or_left, or_right, or_neither}
 use Rattle.rows.specs.Read.{rows_of}
 use Rattle.listed.specs.Fault.{too_long, some_row, wrong_sizes, outside_limits}
 use Rattle.listed.proofs.faults.outside_limits.Goals as goal
-use Rattle.listed.proofs.faults.outside_limits.Goals.{then-is_empty-via-then-is_empty, then-is_empty-via-else-is-empty+then-sides-gt2048, then-is_empty-via-else-is-empty+else-sides-gt2048+then-len-gt256, then-is_empty-via-else-is-empty+else-sides-gt2048+else-len-gt256+then-len-gt256-2, then-some_too_long-via-then-some_too_long, then-some_too_long-via-else-some-too-long+then-some_too_long-2}
+use Rattle.listed.proofs.faults.outside_limits.Goals.{then-is_empty-via-then-is_empty, then-is_empty-via-else-is_empty+then-sides-gt2048, then-is_empty-via-else-is_empty+else-sides-gt2048+then-len-gt256, then-is_empty-via-else-is_empty+else-sides-gt2048+else-len-gt256+then-len-gt256-2, then-some_too_long-via-then-some_too_long, then-some_too_long-via-else-some_too_long+then-some_too_long-2}
 
 pub returns-then-is_empty : goal.returns-then-is_empty
 unfolding outside_limits
@@ -14,9 +14,9 @@ returns-then-is_empty c =
     let wrong : wrong_sizes (length checks) (length generators) (length c.args.sides.now) ≡ true =
     elim c.then-is_empty.branch [
       | then-is_empty-via-then-is_empty w ↦ or_left _ _ (or_left _ _ (or_left _ _ (sym w.if-is_empty.ensures)))
-      | then-is_empty-via-else-is-empty+then-sides-gt2048 w ↦ or_left _ _ (or_left _ _ (or_right _ _ (lt-ltb 2048 _ w.if-sides-gt2048.true)))
-      | then-is_empty-via-else-is-empty+else-sides-gt2048+then-len-gt256 w ↦ or_left _ _ (or_right _ _ (lt-ltb 256 (length checks) (omega arith)))
-      | then-is_empty-via-else-is-empty+else-sides-gt2048+else-len-gt256+then-len-gt256-2 w ↦ or_right _ _ (lt-ltb 256 (length generators) (omega arith))
+      | then-is_empty-via-else-is_empty+then-sides-gt2048 w ↦ or_left _ _ (or_left _ _ (or_right _ _ (lt-ltb 2048 _ w.if-sides-gt2048.true)))
+      | then-is_empty-via-else-is_empty+else-sides-gt2048+then-len-gt256 w ↦ or_left _ _ (or_right _ _ (lt-ltb 256 (length checks) (omega arith)))
+      | then-is_empty-via-else-is_empty+else-sides-gt2048+else-len-gt256+then-len-gt256-2 w ↦ or_right _ _ (lt-ltb 256 (length generators) (omega arith))
     ] in
     sym (or_left _ _ (or_left _ _ wrong))
 
@@ -26,7 +26,7 @@ returns-then-some_too_long c =
     let long : some_row too_long (rows_of c.args.checks.now) (rows_of c.args.generators.now) ≡ true =
     elim c.then-some_too_long.branch [
       | then-some_too_long-via-then-some_too_long w ↦ or_left _ _ (sym w.if-some_too_long.ensures)
-      | then-some_too_long-via-else-some-too-long+then-some_too_long-2 w ↦ or_right _ _ (sym w.if-some_too_long-2.ensures)
+      | then-some_too_long-via-else-some_too_long+then-some_too_long-2 w ↦ or_right _ _ (sym w.if-some_too_long-2.ensures)
     ] in
     sym (or_left _ _ (or_right _ _ long))
 

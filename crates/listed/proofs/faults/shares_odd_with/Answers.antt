@@ -8,13 +8,13 @@ pub returns-then-shares_odd : goal.returns-then-shares_odd
 returns-then-shares_odd c =
     let rows = rows_of c.args.generators.now in
     let h : c.loop-k.k < length rows = omega arith in
-    sought_found (shares_odd c.args.check.now) c.loop-k.k rows [] h c.loop-k.invariant (sym (ap (shares_odd c.args.check.now) c.row.ensures) ∙ sym c.shares_odd_lem.ensures ∙ c.if-shares_odd.true)
+    sought_found (shares_odd c.args.check.now) c.loop-k.k rows [] h c.loop-k.invariant (sym (ap (shares_odd c.args.check.now) c.row.ensures) ∙ sym c.shares_odd.ensures ∙ c.if-shares_odd.true)
 
 pub loop-k-preserved : goal.loop-k-preserved
 loop-k-preserved c =
     let rows = rows_of c.args.generators.now in
     let h : c.loop-k.k < length rows = omega arith in
-    sought_more (shares_odd c.args.check.now) c.loop-k.k rows [] h c.loop-k.invariant (sym (ap (shares_odd c.args.check.now) c.row.ensures) ∙ sym c.shares_odd_lem.ensures ∙ c.if-shares_odd.false)
+    sought_more (shares_odd c.args.check.now) c.loop-k.k rows [] h c.loop-k.invariant (sym (ap (shares_odd c.args.check.now) c.row.ensures) ∙ sym c.shares_odd.ensures ∙ c.if-shares_odd.false)
 
 pub returns : goal.returns
 returns c = sought_all (shares_odd c.args.check.now) c.loop-k.k (rows_of c.args.generators.now) (omega arith) c.loop-k.invariant

@@ -60,11 +60,11 @@ module _ (c : After-mark_rows) where
 
 pub invariant_of-result : goal.invariant_of-result
 invariant_of-result c =
-    let a = (goal.at.invariant_of-result c).After-mark_rows in (
-      subst (λ (l : List ℕ). Within (length l) (vec_items (with_items c.lay.new.spans c.mark_rows.new.spans))) (sym (places_are a))
-          (subst (λ (l : List Span). Within (length c.mark_rows.new.places) l) (sym (spans_are a)) (within a)),
-      tt,
-    )
+    let a = (goal.at.invariant_of-result c).After-mark_rows in
+    record {
+      within = subst (λ (l : List ℕ). Within (length l) (vec_items (with_items c.lay.new.spans c.mark_rows.new.spans))) (sym (places_are a))
+          (subst (λ (l : List Span). Within (length c.mark_rows.new.places) l) (sym (spans_are a)) (within a));
+    }
 
 pub returns : goal.returns
 unfolding rows_of

@@ -29,7 +29,7 @@ module _ (c : After-push_reserved) where
 pub invariant_of-self-2 : goal.invariant_of-self-2
 invariant_of-self-2 c =
     let r = c.args.self.now in
-    (within_more (vec_items r.places) c.args.row.now _ (vec_items r.spans) _ (span c) (start c) refl (more c) (told c) r.within, tt)
+    record { within = within_more (vec_items r.places) c.args.row.now _ (vec_items r.spans) _ (span c) (start c) refl (more c) (told c) r.within }
 
 pub returns : goal.returns
 unfolding rows_of

@@ -12,7 +12,7 @@ module _ (c : In_ok-count_rows) where
 
   -- the counts begin at 0
   zeros : c.as_mut_slice.result.now ≡ replicate n 0
-  zeros = c.as_mut_slice.ensures.value ∙ c.in_ok-counts.ensures.items-if-clones-equal (λ y e. e)
+  zeros = c.as_mut_slice.ensures.value ∙ c.in_ok-counts.ensures.items_if_clones_equal (λ y e. e)
 
   long : length c.as_mut_slice.result.now ≡ n
   long = ap length zeros ∙ length-replicate n 0

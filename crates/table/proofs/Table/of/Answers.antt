@@ -59,7 +59,7 @@ module _ (g : given.Over) (c : In_ok-generators_at g) where
       (rows_of c.in_ok-generators_at.generators_at) c.generators.result c.qubits-qubits.result c.qubits-qubits.ensures c.generators.ensures c.in_ok-generators_at.ensures
 
 pub invariant_of-result : goal.invariant_of-result
-invariant_of-result g c = (∣ sound g c ∣₁, (∣ tells g c ∣₁, (at_checks g c, (at_generators g c, tt))))
+invariant_of-result g c = record { sound = ∣ sound g c ∣₁; tells = ∣ tells g c ∣₁; check_columns = at_checks g c; generator_columns = at_generators g c }
 
 pub returns : goal.returns
 unfolding meaning_of told_of

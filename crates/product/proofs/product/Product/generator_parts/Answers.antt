@@ -3,7 +3,7 @@ use Rattle.product.specs.declared.part.Part.{Part}
 use Rattle.product.proofs.Entries.{generator_parts, pairs_low}
 use Rattle.product.proofs.product.Product.generator_parts.Goals as goal
 
-back_low : (c : goal.After-new-arg-2·1) → c.args.self.now.columns * c.args.self.now.columns + c.args.a * c.args.self.now.rows ≤ 2048
+back_low : (c : goal.After-new-arg-2-1) → c.args.self.now.columns * c.args.self.now.columns + c.args.a * c.args.self.now.rows ≤ 2048
 back_low c =
     let p = c.args.self.now in
     omega (arith, pairs_low p.columns p.columns p.few_columns p.few_columns, pairs_low c.args.a p.rows (omega (arith, c.requires.0, p.few_rows)) p.few_rows)

@@ -14,25 +14,15 @@ words-requires c =
 pub invariant_of-result : goal.invariant_of-result
 invariant_of-result c =
     let r = size_inside c.args.rows (sym c.if-size_outside.ensures) in
-    let n = size_inside c.args.columns (sym c.if-size_outside-2.ensures) in (
-      r.0,
-      (
-        r.1,
-        (
-          n.0,
-          (
-            n.1,
-            (
-              λ a b. c.words.ensures.rows a b ∙ sym (c.words.ensures.columns a b),
-              (
-                λ a b e. marked_inside c.args.rows c.args.columns c.args.places.now (sym c.if-some_outside.ensures) a b (sym (c.words.ensures.rows a b) ∙ e),
-                tt,
-              ),
-            ),
-          ),
-        ),
-      ),
-    )
+    let n = size_inside c.args.columns (sym c.if-size_outside-2.ensures) in
+    record {
+      some_rows = r.0;
+      few_rows = r.1;
+      some_columns = n.0;
+      few_columns = n.1;
+      crossed = λ a b. c.words.ensures.rows a b ∙ sym (c.words.ensures.columns a b);
+      inside = λ a b e. marked_inside c.args.rows c.args.columns c.args.places.now (sym c.if-some_outside.ensures) a b (sym (c.words.ensures.rows a b) ∙ e);
+    }
 
 pub returns : goal.returns
 unfolding meaning_of told_of

@@ -6,18 +6,30 @@ ghost use Rattle.naming.specs.Lines.{name, told_qubit, qubit_lines, row_of, row_
 
 use crate::kind::Kind;
 use code::Code;
-use std::fmt;
+use std::alloc::AllocError;
 use terms::row::Row;
 
 /// Appends a name, and how its line goes on.
-fn append_name(out: &mut String, word: &str, x: u16, y: u16, number: u16, rest: &str) -> fmt::Result
+fn append_name(
+    out: &mut String,
+    word: &str,
+    x: u16,
+    y: u16,
+    number: u16,
+    rest: &str,
+) -> Result<(), AllocError>
     ensures { OnOk result (string_bytes out.new ≡ string_bytes out.old ++ name word.now x y number rest.now) }
 {
     write!(out, "{word} {x} {y} | {number}{rest}")
 }
 
 /// Appends the qubits of one side, which fill a square of the given width.
-pub(crate) fn append_qubits(out: &mut String, letter: &str, first: u16, width: u16) -> fmt::Result
+pub(crate) fn append_qubits(
+    out: &mut String,
+    letter: &str,
+    first: u16,
+    width: u16,
+) -> Result<(), AllocError>
     requires { (first ≤ 1024) × (width ≤ 32) }
     ensures { OnOk result (string_bytes out.new ≡ string_bytes out.old ++ qubit_lines letter.now first width) }
 {
@@ -28,7 +40,7 @@ pub(crate) fn append_qubits(out: &mut String, letter: &str, first: u16, width: u
 }
 
 /// Appends the qubits of a row in the order told.
-fn append_told<C: Code>(out: &mut String, code: &C, row: Row) -> fmt::Result
+fn append_told<C: Code>(out: &mut String, code: &C, row: Row) -> Result<(), AllocError>
     requires { is_row (C.meaning code.now) row ≡ true }
     ensures { OnOk result (string_bytes out.new ≡ string_bytes out.old ++ flat_map told_qubit (C.told code.now row)) }
 {
@@ -45,7 +57,13 @@ fn append_told<C: Code>(out: &mut String, code: &C, row: Row) -> fmt::Result
 }
 
 /// Appends a row's name and its qubits.
-fn append_row<C: Code>(out: &mut String, code: &C, kind: Kind, width: u16, k: u16) -> fmt::Result
+fn append_row<C: Code>(
+    out: &mut String,
+    code: &C,
+    kind: Kind,
+    width: u16,
+    k: u16,
+) -> Result<(), AllocError>
     requires { (is_row (C.meaning code.now) (row_of kind k) ≡ true) × (1 ≤ width) }
     ensures { OnOk result (string_bytes out.new ≡ string_bytes out.old ++ row_line (C.told code.now) kind width k) }
 {
@@ -62,7 +80,7 @@ pub(crate) fn append_rows<C: Code>(
     kind: Kind,
     width: u16,
     count: u16,
-) -> fmt::Result
+) -> Result<(), AllocError>
     requires { (((k : ℕ) → k < count → is_row (C.meaning code.now) (row_of kind k) ≡ true)) × (1 ≤ width) }
     ensures { OnOk result (string_bytes out.new ≡ string_bytes out.old ++ row_lines (C.told code.now) kind width count) }
 {

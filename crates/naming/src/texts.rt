@@ -11,7 +11,6 @@ use code::Code;
 use product::place::Place;
 use product::product::Product;
 use std::alloc::{AllocError, Global};
-use std::fmt;
 use terms::refusal::Refusal;
 
 /// The line that is printed for a refusal: its number, where it has one, and its meaning.
@@ -36,7 +35,12 @@ pub fn names(heap: Global, rows: u16, columns: u16, places: &[Place]) -> Result<
 }
 
 /// Appends all names of a code over a grid of the given sizes.
-fn append_names<C: Code>(out: &mut String, code: &C, rows: u16, columns: u16) -> fmt::Result
+fn append_names<C: Code>(
+    out: &mut String,
+    code: &C,
+    rows: u16,
+    columns: u16,
+) -> Result<(), AllocError>
     requires sizes { (1 ≤ rows) × (rows ≤ 32) × (1 ≤ columns) × (columns ≤ 32) }
     requires checks { length (C.meaning code.now).checks ≡ columns * rows }
     requires generators { length (C.meaning code.now).generators ≡ rows * columns }

@@ -1,4 +1,4 @@
-use Rattle.std.proofs.Common.{◌≡◌, ◌+◌, ◌-◌, ◌*◌, true, false, ◌++◌, get_or, replicate, Some, sym, ap, ◌∙◌, arith, le-ltb, lt-ltb}
+use Rattle.std.proofs.Common.{◌≡◌, ◌-◌, ◌*◌, true, false, ◌++◌, get_or, replicate, Some, sym, ap, ◌∙◌, arith, le-ltb, lt-ltb}
 use lib.ListN.{length-replicate}
 use Rattle.std.proofs.lemmas.List.{get_or_append_left, get_or-append_right, get_or-replicate}
 use Rattle.terms.specs.Rows.{side_of}

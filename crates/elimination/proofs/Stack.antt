@@ -1,5 +1,5 @@
 -- A table of rows as a basis: one column's step of an insertion, and where the steps lead.
-use Rattle.std.proofs.Common.{◌≡◌, ℕ, zero, suc, ◌+◌, ◌-◌, ◌*◌, ◌<◌, ◌≤◌, Bool, true, false, ◌≢◌, List, [], ◌∷◌, map, length, get_or, take, drop, set, sym, refl, ap, ◌∙◌, ap₂, true≢false, suc-mul, zero-mul, arith, length-drop, length-set, drop-cons, get_or-set_other}
+use Rattle.std.proofs.Common.{◌≡◌, ℕ, zero, suc, ◌+◌, ◌*◌, ◌<◌, ◌≤◌, Bool, true, false, ◌≢◌, List, [], ◌∷◌, map, length, get_or, take, drop, set, sym, refl, ap, ◌∙◌, ap₂, true≢false, suc-mul, zero-mul, arith, length-drop, length-set, drop-cons, get_or-set_other}
 use Rattle.std.proofs.lemmas.List.{drop-drop}
 use Rattle.linear.specs.Field.{Field}
 use Rattle.linear.specs.Basis.{Basis, free, lead, grown, known, clash, under, at_free, hd, tl, mix, insert}

@@ -6,6 +6,7 @@ ghost use Rattle.rows.specs.Cut.{none};
 
 mod calls;
 mod crossing;
+mod telling;
 
 /// Where a row stands among the places.
 #[derive(Clone, Copy)]

@@ -1,5 +1,5 @@
 -- Sets of numbers, as masks: a list of bits, one for each number of a range. What lies past the end is not in the set.
-use Rattle.std.specs.Prelude.{ℕ, suc, ◌+◌, Bool, true, false, not, ◌&&◌, ◌||◌, List, [], ◌∷◌, map, set, replicate, ◌==◌, slice_index_or, slice_set}
+use Rattle.std.specs.Prelude.{ℕ, suc, ◌+◌, Bool, true, false, not, ◌&&◌, ◌||◌, List, [], ◌∷◌, map, replicate, ◌==◌, slice_index_or, slice_set}
 use Rattle.sets.specs.Bits.{flip}
 
 -- whether k is in the set

@@ -17,7 +17,7 @@ returns-in-Clash g c n rows written h =
     record {
       unknowns = h.unknowns;
       stands =
-          added g.row.T-Value.field u n rows written e.contradicts e.table.items e.row.items h.unknowns h.stands
+          added g.T.Value.field u n rows written e.contradicts e.table.items e.row.items h.unknowns h.stands
           c.args.right c.insert_row-added.result true D c.deref_mut-2.result.now c.insert_row-added.new.table _ _ c.insert_row-added.new.row c.clear.new.row (drop ((u + 1) - 0) D)
           (ap (λ o. flagged o e.contradicts) c.in-Clash.is)
           (with_items_is e.table c.insert_row-added.new.table (c.insert_row-added.auto.table ∙ c.deref_mut-2.ensures.len))
@@ -37,7 +37,7 @@ returns-in_default g c n rows written h =
     record {
       unknowns = h.unknowns;
       stands =
-          added g.row.T-Value.field u n rows written e.contradicts e.table.items e.row.items h.unknowns h.stands
+          added g.T.Value.field u n rows written e.contradicts e.table.items e.row.items h.unknowns h.stands
           c.args.right c.insert_row-added.result e.contradicts D c.deref_mut-2.result.now c.insert_row-added.new.table _ _ c.insert_row-added.new.row c.clear.new.row (drop ((u + 1) - 0) D)
           (flagged_not c.insert_row-added.result e.contradicts c.in_default.not-Clash)
           (with_items_is e.table c.insert_row-added.new.table (c.insert_row-added.auto.table ∙ c.deref_mut-2.ensures.len))

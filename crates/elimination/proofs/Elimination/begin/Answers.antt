@@ -16,7 +16,7 @@ returns g c =
     record {
       begun = rw q (record {
         unknowns = refl;
-        stands = begun g.row.T-Value.field n e.table.items e.row.items T R c.clear.new.row c.clear-2.new.row _ _ c.if-n-gt256.false (sym e.table.ok.0 ∙ e.tabled) (sym e.row.ok.0 ∙ e.rowed) c.deref_mut.ensures.value c.deref_mut-2.ensures.value
+        stands = begun g.T.Value.field n e.table.items e.row.items T R c.clear.new.row c.clear-2.new.row _ _ c.if-n-gt256.false (sym e.table.ok.0 ∙ e.tabled) (sym e.row.ok.0 ∙ e.rowed) c.deref_mut.ensures.value c.deref_mut-2.ensures.value
             c.clear.ensures c.clear-2.ensures (drop (n * (n + 1) - 0) T) (drop ((n + 1) - 0) R)
             (with_items_is e.table (c.clear.new.row ++ drop (n * (n + 1) - 0) T) a) (with_items_is e.row (c.clear-2.new.row ++ drop ((n + 1) - 0) R) b);
       });

@@ -12,7 +12,7 @@ returns g c n rows written h =
     let long : length (c.clear.new.row ++ drop ((c.args.self.now.unknowns + 1) - 0) c.deref_mut.result.now) ≡ c.args.self.now.row.len =
     refill ((c.args.self.now.unknowns + 1) - 0) c.deref_mut.result.now c.clear.new.row (c.clear.auto.row ∙ c.reduce-column.auto.row) ∙ c.deref_mut.ensures.len in
     let both =
-    tried g.row.T-Value.field u n rows written e.contradicts e.table.items e.row.items h.unknowns h.stands
+    tried g.T.Value.field u n rows written e.contradicts e.table.items e.row.items h.unknowns h.stands
     c.reduce-column.result D c.deref.result.now _ c.reduce-column.new.row c.clear.new.row (drop ((u + 1) - 0) D) e.few (sym e.table.ok.0 ∙ e.tabled) c.deref_mut.ensures.value c.deref.ensures.value
     c.reduce-column.ensures c.reduce-column.auto.row c.clear.ensures (with_items_is e.row (c.clear.new.row ++ drop ((u + 1) - 0) D) long) in
     (record { unknowns = h.unknowns; stands = both.0 }, both.1)

@@ -15,11 +15,16 @@ returns-in_err-least g c = let p = err_from_is_err_and c.from_residual-in_err-le
 
 pub invariant_of-result : goal.invariant_of-result
 invariant_of-result g c =
-    let z = g.row.T-Value.field.zer in
+    let z = g.T.Value.field.zer in
     let t = c.in_ok-table.table in
     let r = c.in_ok-row.row in
     let l = c.in_ok-least.least in
-    (omega arith, (sized t.len 65792 z t.items t.ok.0 c.in_ok-table.ensures, (sized r.len 257 z r.items r.ok.0 c.in_ok-row.ensures, (sized l.len 256 z l.items l.ok.0 c.in_ok-least.ensures, tt))))
+    record {
+      few = omega arith;
+      tabled = sized t.len 65792 z t.items t.ok.0 c.in_ok-table.ensures;
+      rowed = sized r.len 257 z r.items r.ok.0 c.in_ok-row.ensures;
+      roomy = sized l.len 256 z l.items l.ok.0 c.in_ok-least.ensures;
+    }
 
 pub returns : goal.returns
-returns g c = record { unknowns = refl; stands = begins g.row.T-Value.field 0 _ _ c.in_ok-table.table.items refl (ap (take 1) c.in_ok-row.ensures) }
+returns g c = record { unknowns = refl; stands = begins g.T.Value.field 0 _ _ c.in_ok-table.table.items refl (ap (take 1) c.in_ok-row.ensures) }

@@ -12,7 +12,7 @@ returns g c =
           let q : ltb c.args.place n ≡ true = lt-ltb c.args.place n lt in
           rw q (record {
             unknowns = h.unknowns;
-            stands = put_held g.row.T-Value.field e.unknowns n rows written e.contradicts e.table.items e.row.items h.unknowns h.stands
+            stands = put_held g.T.Value.field e.unknowns n rows written e.contradicts e.table.items e.row.items h.unknowns h.stands
                 c.args.place c.index.result.now c.plus.result c.args.coefficient c.if-place-self.false e.few (sym e.row.ok.0 ∙ e.rowed) c.index.ensures c.plus.ensures;
           });
       kept = tt;

@@ -6,11 +6,11 @@ use Rattle.elimination.proofs.Elimination.slack.Goals as goal
 
 pub returns-then-self : goal.returns-then-self
 returns-then-self g c =
-    record { few = tt; power = λ n rows written h. none_left g.row.T-Value.field n rows written _ _ _ c.if-self.true h.stands }
+    record { few = tt; power = λ n rows written h. none_left g.T.Value.field n rows written _ _ _ c.if-self.true h.stands }
 
 pub returns : goal.returns
 returns g c =
-    let K = g.row.T-Value.field in
+    let K = g.T.Value.field in
     record {
       few = omega (arith, c.slack_of.ensures.few, c.args.self.now.few);
       power =

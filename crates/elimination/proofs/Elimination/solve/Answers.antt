@@ -6,7 +6,7 @@ use Rattle.elimination.proofs.Held.{solved}
 use Rattle.elimination.proofs.Elimination.solve.Goals as goal
 
 pub returns-then-self : goal.returns-then-self
-returns-then-self g c n rows written h = (h, none_left g.row.T-Value.field n rows written _ _ _ c.if-self.true h.stands)
+returns-then-self g c n rows written h = (h, none_left g.T.Value.field n rows written _ _ _ c.if-self.true h.stands)
 
 pub returns : goal.returns
 returns g c n rows written h =
@@ -19,7 +19,7 @@ returns g c n rows written h =
     let room : c.args.self.now.unknowns - 0 ≤ length c.deref_mut.result.now = omega (arith, c.args.self.now.few, c.args.self.now.roomy, c.deref_mut.ensures.len) in
     let size : length c.reverse.new.self ≡ c.args.self.now.unknowns = omega (arith, k, length-take-le (c.args.self.now.unknowns - 0) c.deref_mut.result.now room) in (
       record { unknowns = h.unknowns; stands = h.stands },
-      solved g.row.T-Value.field u n rows written e.contradicts e.table.items e.row.items h.unknowns h.stands
+      solved g.T.Value.field u n rows written e.contradicts e.table.items e.row.items h.unknowns h.stands
           c.deref.result.now c.least_of.new.out c.reverse.new.self (drop (u - 0) D) _ c.if-self.false c.deref.ensures.value c.least_of.ensures c.reverse.ensures.after size
           (with_items_is e.least (c.reverse.new.self ++ drop (u - 0) D) long),
     )

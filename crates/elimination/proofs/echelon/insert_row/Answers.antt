@@ -7,14 +7,14 @@ use Rattle.elimination.proofs.echelon.insert_row.Goals as goal
 pub offset_bounds-table-at : goal.offset_bounds-table-at
 offset_bounds-table-at g c =
     let h : c.reduce-j.result * (c.args.width + 1) ≤ length c.args.table.now = omega (arith, fits c.args.width c.reduce-j.result c.if-j-width.true, c.requires.within) in
-    omega (arith, mul-le-mul_right (size (layout g.row.T)) h, c.well-formed)
+    omega (arith, mul-le-mul_right (size (layout g.row.T)) h, c.well_formed)
 
 pub slice_bounds-copy_from_slice-end : goal.slice_bounds-copy_from_slice-end
 slice_bounds-copy_from_slice-end g c = omega (arith, fits c.args.width c.reduce-j.result c.if-j-width.true, c.requires.within)
 
 pub returns-then-j-width : goal.returns-then-j-width
 returns-then-j-width g c =
-    let K = g.row.T-Value.field in
+    let K = g.T.Value.field in
     let w : ℕ = c.args.width in
     let j : ℕ = c.reduce-j.result in
     let k : (j * (w + 1) + (w + 1)) - j * (w + 1) ≡ w + 1 = omega arith in
@@ -25,10 +25,10 @@ returns-then-j-width g c =
 
 pub returns-then-is_zero : goal.returns-then-is_zero
 returns-then-is_zero g c =
-    known_inserted g.row.T-Value.field c.args.width c.args.table.now c.args.row.now c.reduce-j.new.row c.reduce-j.result c.if-j-width.false (c.reduce-j.auto.row ∙ c.requires.row) c.reduce-j.ensures
+    known_inserted g.T.Value.field c.args.width c.args.table.now c.args.row.now c.reduce-j.new.row c.reduce-j.result c.if-j-width.false (c.reduce-j.auto.row ∙ c.requires.row) c.reduce-j.ensures
     c.index-row-0.result c.index-row-0.is (sym c.is_zero.ensures ∙ c.if-is_zero.true)
 
 pub returns-else-is_zero : goal.returns-else-is_zero
 returns-else-is_zero g c =
-    clash_inserted g.row.T-Value.field c.args.width c.args.table.now c.args.row.now c.reduce-j.new.row c.reduce-j.result c.if-j-width.false (c.reduce-j.auto.row ∙ c.requires.row) c.reduce-j.ensures
+    clash_inserted g.T.Value.field c.args.width c.args.table.now c.args.row.now c.reduce-j.new.row c.reduce-j.result c.if-j-width.false (c.reduce-j.auto.row ∙ c.requires.row) c.reduce-j.ensures
     c.index-row-0.result c.index-row-0.is (sym c.is_zero.ensures ∙ c.if-is_zero.false)

@@ -8,7 +8,7 @@ use Rattle.elimination.proofs.echelon.reduce.Goals.{then-not-is_zero+else-is_zer
 pub offset_bounds-table-at : goal.offset_bounds-table-at
 offset_bounds-table-at g c =
     let h : c.loop-j.j * (c.args.width + 1) + c.loop-j.j + 1 ≤ length c.args.table.now = omega (arith, fits c.args.width c.loop-j.j c.loop-j-test.true, c.requires.within) in
-    omega (arith, mul-le-mul_right (size (layout g.row.T)) h, c.well-formed)
+    omega (arith, mul-le-mul_right (size (layout g.row.T)) h, c.well_formed)
 
 pub bounds-table-at : goal.bounds-table-at
 bounds-table-at g c = omega (arith, fits c.args.width c.loop-j.j c.loop-j-test.true, c.requires.within)
@@ -16,14 +16,14 @@ bounds-table-at g c = omega (arith, fits c.args.width c.loop-j.j c.loop-j-test.t
 pub returns-then-is_zero : goal.returns-then-is_zero
 returns-then-is_zero g c =
     let n : length c.loop-j.row ≡ c.args.width + 1 = c.loop-j.auto.row ∙ c.requires.row in
-    stopped g.row.T-Value.field c.args.width c.args.table.now c.loop-j.j c.requires.within c.loop-j-test.true c.args.row.now c.loop-j.row n
+    stopped g.T.Value.field c.args.width c.args.table.now c.loop-j.j c.requires.within c.loop-j-test.true c.args.row.now c.loop-j.row n
     c.index-row-j.result c.index-table-at.result c.index-row-j.is c.index-table-at.is
     (sym c.is_zero.ensures ∙ c.if-not-is_zero.true) (sym c.is_zero-then-not-is_zero.ensures ∙ c.if-is_zero.true) c.loop-j.invariant
 
 pub offset_bounds-table-at-then-not-is_zero : goal.offset_bounds-table-at-then-not-is_zero
 offset_bounds-table-at-then-not-is_zero g c =
     let h : c.loop-j.j * (c.args.width + 1) ≤ length c.args.table.now = omega (arith, fits c.args.width c.loop-j.j c.loop-j-test.true, c.requires.within) in
-    omega (arith, mul-le-mul_right (size (layout g.row.T)) h, c.well-formed)
+    omega (arith, mul-le-mul_right (size (layout g.row.T)) h, c.well_formed)
 
 pub bounds-table-at-then-not-is_zero : goal.bounds-table-at-then-not-is_zero
 bounds-table-at-then-not-is_zero g c = omega (arith, fits c.args.width c.loop-j.j c.loop-j-test.true, c.requires.within)
@@ -31,14 +31,14 @@ bounds-table-at-then-not-is_zero g c = omega (arith, fits c.args.width c.loop-j.
 pub offset_bounds-table-at-then-not-is_zero-2 : goal.offset_bounds-table-at-then-not-is_zero-2
 offset_bounds-table-at-then-not-is_zero-2 g c =
     let h : c.loop-j.j * (c.args.width + 1) + c.loop-j.j + 2 ≤ length c.args.table.now = omega (arith, fits c.args.width c.loop-j.j c.loop-j-test.true, c.requires.within) in
-    omega (arith, mul-le-mul_right (size (layout g.row.T)) h, c.well-formed)
+    omega (arith, mul-le-mul_right (size (layout g.row.T)) h, c.well_formed)
 
 pub slice_bounds-add_times-end-then-not-is_zero : goal.slice_bounds-add_times-end-then-not-is_zero
 slice_bounds-add_times-end-then-not-is_zero g c = omega (arith, fits c.args.width c.loop-j.j c.loop-j-test.true, c.requires.within)
 
 pub loop-j-preserved : goal.loop-j-preserved
 loop-j-preserved g c =
-    let K = g.row.T-Value.field in
+    let K = g.T.Value.field in
     let w : ℕ = c.args.width in
     let j : ℕ = c.loop-j.j in
     let T = c.args.table.now in
@@ -65,4 +65,4 @@ loop-j-preserved g c =
 pub returns : goal.returns
 returns g c =
     let b : c.loop-j.j ≤ c.args.width = omega (arith, c.loop-j.auto.j-end) in
-    ended_reduced g.row.T-Value.field c.args.width c.args.table.now c.args.row.now c.loop-j.row c.loop-j.j c.loop-j-test.false b c.loop-j.invariant
+    ended_reduced g.T.Value.field c.args.width c.args.table.now c.args.row.now c.loop-j.row c.loop-j.j c.loop-j-test.false b c.loop-j.invariant

@@ -7,19 +7,19 @@ use Rattle.elimination.proofs.echelon.slack_of.Goals as goal
 use Rattle.elimination.proofs.echelon.slack_of.Goals.{then-is_zero, else-is_zero}
 
 pub loop-j-init : goal.loop-j-init
-loop-j-init g c = counted_none g.row.T-Value.field c.args.width c.args.table.now
+loop-j-init g c = counted_none g.T.Value.field c.args.width c.args.table.now
 
 pub offset_bounds-table-j : goal.offset_bounds-table-j
 offset_bounds-table-j g c =
     let h : c.loop-j.j * (c.args.width + 1) + c.loop-j.j + 1 ≤ length c.args.table.now = omega (arith, fits c.args.width c.loop-j.j c.loop-j-test.true, c.requires.within) in
-    omega (arith, mul-le-mul_right (size (layout g.row.T)) h, c.well-formed)
+    omega (arith, mul-le-mul_right (size (layout g.row.T)) h, c.well_formed)
 
 pub bounds-table-j : goal.bounds-table-j
 bounds-table-j g c = omega (arith, fits c.args.width c.loop-j.j c.loop-j-test.true, c.requires.within)
 
 pub loop-j-preserved : goal.loop-j-preserved
 loop-j-preserved g c =
-    let K = g.row.T-Value.field in
+    let K = g.T.Value.field in
     let w : ℕ = c.args.width in
     let j : ℕ = c.loop-j.j in
     let T = c.args.table.now in
@@ -35,6 +35,6 @@ loop-j-preserved g c =
 pub returns : goal.returns
 returns g c =
     record {
-      counted = counted_all g.row.T-Value.field c.args.width c.args.table.now c.loop-j.j c.loop-j.n c.loop-j-test.false c.loop-j.invariant;
+      counted = counted_all g.T.Value.field c.args.width c.args.table.now c.loop-j.j c.loop-j.n c.loop-j-test.false c.loop-j.invariant;
       few = omega (arith, c.loop-j.invariant.few, c.loop-j.auto.j-end);
     }

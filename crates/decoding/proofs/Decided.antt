@@ -9,7 +9,7 @@ use Rattle.rules.specs.States.{State, opening}
 use Rattle.rules.specs.Calls.{peel_bars, peel}
 use Rattle.rules.specs.CallLists.{after}
 use Rattle.rules.specs.Tallies.{Tally, Opened, one_more, open_bars, open_trial, closings, outcome, verdict, counted, close_bars, close}
-use Rattle.rules.proofs.Bars.{guarded, accepted, passed, not_ok}
+use Rattle.rules.proofs.Bars.{guarded, accepted, passed}
 use Rattle.trial.specs.Opening.{OpensAs, Opens}
 use Rattle.decoding.specs.Peeling.{peels, decided_from, decided, DecidesAs, Decides}
 

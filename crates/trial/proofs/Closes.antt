@@ -1,5 +1,5 @@
 -- A close that is accepted, and why it is true.
-use Rattle.std.proofs.Common.{◌≡◌, ℕ, Bool, true, false, not, eqb, [], ◌∷◌, Some, None, Ok, Err, Result, sym, ap, ◌∙◌, subst}
+use Rattle.std.proofs.Common.{◌≡◌, ℕ, true, false, not, eqb, None, Ok, Result, sym, ap, ◌∙◌, subst}
 use Rattle.terms.specs.declared.refusal.Refusal.{Refusal}
 use Rattle.meaning.specs.Meaning.{Meaning, Sound}
 use Rattle.rules.specs.declared.answers.Outcome.{Outcome}

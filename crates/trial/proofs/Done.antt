@@ -1,5 +1,5 @@
 -- A trial's tables after one qubit is done: they fit, and mean what the rule says.
-use Rattle.std.proofs.Common.{◌≡◌, ℕ, ◌+◌, ◌<◌, ◌≤◌, Bool, true, cond, not, List, [], map, length, get_or, set, vec_items, sym, refl, ap, ◌∙◌, arith, length-set}
+use Rattle.std.proofs.Common.{◌≡◌, ℕ, ◌+◌, ◌<◌, ◌≤◌, Bool, true, cond, not, List, [], map, length, get_or, set, vec_items, sym, ap, ◌∙◌, arith, length-set}
 use Rattle.std.proofs.lemmas.List.{length-map, get_or-map, get_or_read}
 use Rattle.sets.specs.Sets.{has, meet, only, empty, size, elements}
 use Rattle.meaning.specs.Meaning.{Meaning, qubits}

@@ -1,5 +1,5 @@
 -- A vector that was lent as a slice and came back changed.
-use Rattle.std.proofs.Common.{◌≡◌, List, length, vec_items, vec_len, Vec, sym, ap, ◌∙◌}
+use Rattle.std.proofs.Common.{◌≡◌, List, length, vec_items, vec_len, Vec, ap, ◌∙◌}
 use Rattle.std.specs.Vec.{with_items}
 use Rattle.std.proofs.lemmas.List.{with_items_is}
 

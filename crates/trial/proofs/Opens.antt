@@ -15,7 +15,7 @@ use Rattle.rules.specs.States.{State, opening}
 use Rattle.rules.specs.Tallies as rules
 use Rattle.upkeep.specs.Changed.{changed, marked}
 use Rattle.upkeep.specs.Fault.{fault}
-use Rattle.upkeep.specs.Statuses.{is_erased, is_shelved, erased_of, shelved_of}
+use Rattle.upkeep.specs.Statuses.{is_erased, erased_of, shelved_of}
 use Rattle.upkeep.proofs.Changed.{length_changed}
 use Rattle.upkeep.proofs.Counts.{size_nothing}
 use Rattle.upkeep.proofs.Faults.{fault_clear, fault_some, fault_none}

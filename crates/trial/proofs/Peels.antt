@@ -1,6 +1,5 @@
 -- A peel that is not refused.
-use Rattle.std.proofs.Common.{◌≡◌, ℕ, ◌+◌, ◌<◌, ◌≤◌, Bool, true, false, cond, not, ◌&&◌, eqb, ltb, List, length, get_or, Some, None, Ok, Err, vec_items, Result, sym, refl, ap, ◌∙◌, arith, ltb-true, eqb-true}
-use Rattle.std.proofs.lemmas.List.{get_or_read}
+use Rattle.std.proofs.Common.{◌≡◌, ℕ, ◌+◌, ◌<◌, Bool, true, cond, not, eqb, ltb, List, length, Some, None, Ok, Result, sym, ap, ◌∙◌, arith, ltb-true, eqb-true}
 use Rattle.terms.specs.declared.refusal.Refusal.{Refusal}
 use Rattle.terms.specs.declared.row.Row.TheVariants.{Check}
 use Rattle.sets.specs.Sets.{has, row, only, empty, size, among}
@@ -15,7 +14,6 @@ use Rattle.table.specs.OfTable.{told_of}
 use Rattle.table.specs.Stands.{table_sound, table_tells}
 use Rattle.upkeep.specs.Fault.{fault}
 use Rattle.upkeep.specs.Rows.{first_in}
-use Rattle.upkeep.specs.Statuses.{erased_of}
 use Rattle.upkeep.proofs.Faults.{fault_clear, fault_none}
 use Rattle.upkeep.proofs.Rows.{first_in_lem, none_in}
 use Rattle.upkeep.proofs.Finish.{with_counts, count_peeled}

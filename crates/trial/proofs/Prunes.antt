@@ -1,5 +1,5 @@
 -- A prune that is not refused.
-use Rattle.std.proofs.Common.{◌≡◌, ℕ, ◌+◌, ◌<◌, true, not, ltb, List, Some, None, Ok, Result, sym, ap, ◌∙◌, ltb-true}
+use Rattle.std.proofs.Common.{◌≡◌, ℕ, ◌+◌, ◌<◌, true, ltb, List, None, Ok, Result, sym, ap, ◌∙◌, ltb-true}
 use Rattle.terms.specs.declared.refusal.Refusal.{Refusal}
 use Rattle.sets.specs.Sets.{has, only, empty}
 use Rattle.sets.proofs.Bits.{not_false}

@@ -1,14 +1,15 @@
 //! The tallies, trials and slips of a sequence, and the calls on them.
-use crate::calling::{churn_on, close_held, close_somewhere, peel, prune};
-use crate::failing::{Failure, Stop};
+ghost use Rattle.std.specs.Prelude.{◌≡◌, length};
+ghost use Rattle.trial_tests.specs.Slips.{outs, held, trial_numbers, Own};
+
+use crate::calling::{churn_at, close_all, close_at, keep, open_at, peel, prune};
 use crate::reading::{Numbers, Step};
 use crate::telling::{Answer, Bytes, Counted, State, Told};
-use std::alloc::{AllocFailed, Global};
+use std::alloc::Global;
 use table::Table;
 use trial::slip::Slip;
 use trial::tally::Tally;
 use trial::trial::Trial;
-use trial::trial::opening::Opened;
 
 /// Each in the order of its making. Slip k was handed out with trial k; a slip that was spent leaves its place empty.
 pub(crate) struct Bench<'t> {
@@ -16,6 +17,9 @@ pub(crate) struct Bench<'t> {
     tallies: Vec<Tally>,
     trials: Vec<Trial<'t>>,
     slips: Vec<Option<Slip>>,
+    ghost as_many: { length slips.items ≡ length trials.items },
+    ghost own: { Own slips.items (trial_numbers trials.items) },
+    ghost all_held: { outs tallies.items ≡ held slips.items },
 }
 
 impl<'t> Bench<'t> {
@@ -29,7 +33,7 @@ impl<'t> Bench<'t> {
     }
 
     /// Makes the call of a step and prints its line.
-    pub(crate) fn play(&mut self, rt: &HostRuntime, step: &Step) -> Result<(), Stop> {
+    pub(crate) fn play(&mut self, rt: &HostRuntime, step: &Step) -> anyhow::Result<()> {
         let heap = rt.alloc();
         let mut numbers = step.numbers();
         let told = match step.word() {
@@ -38,14 +42,14 @@ impl<'t> Bench<'t> {
             "peel" => peel(&mut self.trials, self.slips.as_slice(), &mut numbers),
             "prune" => prune(heap, &mut self.trials, self.slips.as_slice(), &mut numbers)?,
             "copy_out" => self.copy_out(heap, &mut numbers)?,
-            "close" => self.close(&mut numbers)?,
-            "churn" => self.churn(heap, &mut numbers)?,
+            "close" => self.close(&mut numbers),
+            "churn" => self.churn(heap, &mut numbers),
             _ => Told::unknown(),
         };
         self.tell(rt, told)
     }
 
-    fn tell(&self, rt: &HostRuntime, told: Told) -> Result<(), Stop> {
+    fn tell(&self, rt: &HostRuntime, told: Told) -> anyhow::Result<()> {
         rt.print(told.answer)?;
         if let Some(bytes) = &told.bytes {
             rt.print(Bytes(bytes.as_slice()))?;
@@ -64,13 +68,13 @@ impl<'t> Bench<'t> {
         Ok(())
     }
 
-    fn new_tally(&mut self) -> Result<Told, Stop> {
+    fn new_tally(&mut self) -> anyhow::Result<Told> {
         let place = self.tallies.len();
         self.tallies.push(Tally::new())?;
         Ok(Told::of_tally(Answer::Done, place))
     }
 
-    fn open(&mut self, heap: Global, numbers: &mut Numbers) -> Result<Told, Stop> {
+    fn open(&mut self, heap: Global, numbers: &mut Numbers) -> anyhow::Result<Told> {
         let code = numbers.place();
         let place = numbers.place();
         let lost = numbers.list(heap)?;
@@ -78,29 +82,20 @@ impl<'t> Bench<'t> {
         let Some(table) = self.tables.get(code) else {
             return Ok(Told::unknown());
         };
-        let Some(tally) = self.tallies.get_mut(place) else {
+        if place >= self.tallies.len() {
             return Ok(Told::unknown());
-        };
-        let answer = match Trial::open(heap, table, lost.as_slice(), odd.as_slice(), tally) {
-            Ok(opened) => self.keep(opened)?,
+        }
+        self.slips.reserve(1)?;
+        self.trials.reserve(1)?;
+        let tallies = self.tallies.as_mut_slice();
+        let answer = match open_at(heap, table, lost.as_slice(), odd.as_slice(), tallies, place) {
+            Ok(opened) => keep(opened, &mut self.trials, &mut self.slips),
             Err(refusal) => Answer::Refused(refusal),
         };
         Ok(Told::of_tally(answer, place))
     }
 
-    fn keep(&mut self, opened: Opened<'t>) -> Result<Answer, Stop> {
-        let Opened { trial, slip } = opened;
-        let number = slip.number();
-        match self.slips.push(Some(slip)) {
-            Ok(()) => {}
-            Err(AllocFailed { value: Some(slip) }) => return Err(Stop::Loose(slip)),
-            Err(AllocFailed { value: None }) => {}
-        }
-        self.trials.push(trial)?;
-        Ok(Answer::Number(number))
-    }
-
-    fn copy_out(&mut self, heap: Global, numbers: &mut Numbers) -> Result<Told, Stop> {
+    fn copy_out(&mut self, heap: Global, numbers: &mut Numbers) -> anyhow::Result<Told> {
         let place = numbers.place();
         let Some(trial) = self.trials.get(place) else {
             return Ok(Told::unknown());
@@ -117,63 +112,56 @@ impl<'t> Bench<'t> {
         Ok(told)
     }
 
-    fn close(&mut self, numbers: &mut Numbers) -> Result<Told, Stop> {
+    fn close(&mut self, numbers: &mut Numbers) -> Told {
         let place = numbers.place();
         let slip_place = numbers.place();
         let tally_place = numbers.place();
         let Some(trial) = self.trials.get(place) else {
-            return Ok(Told::unknown());
+            return Told::unknown();
         };
-        let Some(tally) = self.tallies.get_mut(tally_place) else {
-            return Ok(Told::unknown());
-        };
-        let Some(held) = self.slips.get_mut(slip_place) else {
-            return Ok(Told::unknown());
-        };
-        let answer = close_held(trial, held, tally)?;
+        if tally_place >= self.tallies.len() || slip_place >= self.slips.len() {
+            return Told::unknown();
+        }
+        let slips = self.slips.as_mut_slice();
+        let answer = close_at(
+            trial,
+            slips,
+            slip_place,
+            self.tallies.as_mut_slice(),
+            tally_place,
+        );
         let mut told = Told::of_trial(answer, place);
         told.tally = Some(tally_place);
-        Ok(told)
+        told
     }
 
-    fn churn(&mut self, heap: Global, numbers: &mut Numbers) -> Result<Told, Stop> {
+    fn churn(&mut self, heap: Global, numbers: &mut Numbers) -> Told {
         let code = numbers.place();
         let place = numbers.place();
         let Some(table) = self.tables.get(code) else {
-            return Ok(Told::unknown());
+            return Told::unknown();
         };
-        let Some(tally) = self.tallies.get_mut(place) else {
-            return Ok(Told::unknown());
-        };
-        let answer = churn_on(heap, table, tally, numbers.next())?;
-        Ok(Told::of_tally(answer, place))
+        if place >= self.tallies.len() {
+            return Told::unknown();
+        }
+        let answer = churn_at(
+            heap,
+            table,
+            self.tallies.as_mut_slice(),
+            place,
+            numbers.next(),
+        );
+        Told::of_tally(answer, place)
     }
 
     /// Ends the sequence. Slips that it left out are closed with their own trials: there are as many as the tallies count out, so one of these takes each.
-    pub(crate) fn end(self, played: Result<(), Stop>) -> Result<(), Failure> {
+    pub(crate) fn end(self) {
         let Bench {
             tables: _,
             mut tallies,
             trials,
-            mut slips,
+            slips,
         } = self;
-        if let Err(stop) = played {
-            return Err(Failure::Stopped { stop, slips });
-        }
-        for trial in trials.iter().rev() {
-            let Some(Some(slip)) = slips.pop() else {
-                continue;
-            };
-            if let Err(slip) = close_somewhere(trial, slip, tallies.as_mut_slice()) {
-                let stop = Stop::Loose(slip);
-                return Err(Failure::Stopped { stop, slips });
-            }
-        }
-        if slips.len() != 0 {
-            let stop = Stop::Error("more slips than trials".into());
-            return Err(Failure::Stopped { stop, slips });
-        }
-        slips.destroy_empty();
-        Ok(())
+        close_all(trials.as_slice(), slips, tallies.as_mut_slice());
     }
 }

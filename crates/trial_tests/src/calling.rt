@@ -1,9 +1,12 @@
 //! Calls on one trial.
-use crate::failing::Stop;
+ghost use Rattle.std.specs.Prelude.{◌≡◌, ◌⊎◌, ℕ, ◌+◌, ◌<◌, ◌≤◌, List, length, None, slice_index_or, vec_len, vec_capacity};
+ghost use Rattle.trial_tests.specs.Slips.{out, outs, held_by, held, trial_numbers, Own, OpensOne};
+
 use crate::reading::Numbers;
 use crate::telling::{Answer, Told};
-use std::alloc::Global;
+use std::alloc::{AllocError, Global};
 use table::Table;
+use terms::refusal::Refusal;
 use trial::slip::Slip;
 use trial::tally::Tally;
 use trial::trial::Trial;
@@ -14,7 +17,9 @@ pub(crate) fn peel(
     trials: &mut Vec<Trial<'_>>,
     slips: &[Option<Slip>],
     numbers: &mut Numbers,
-) -> Told {
+) -> Told
+    ensures { trial_numbers trials.new.items ≡ trial_numbers trials.old.items }
+{
     let place = numbers.place();
     let Some(Some(slip)) = slips.get(numbers.place()) else {
         return Told::unknown();
@@ -34,7 +39,9 @@ pub(crate) fn prune(
     trials: &mut Vec<Trial<'_>>,
     slips: &[Option<Slip>],
     numbers: &mut Numbers,
-) -> Result<Told, Stop> {
+) -> Result<Told, AllocError>
+    ensures { trial_numbers trials.new.items ≡ trial_numbers trials.old.items }
+{
     let place = numbers.place();
     let Some(Some(slip)) = slips.get(numbers.place()) else {
         return Ok(Told::unknown());
@@ -51,61 +58,170 @@ pub(crate) fn prune(
     Ok(Told::of_trial(answer, place))
 }
 
-/// Closes with the slip that is held; a refused close puts it back.
-pub(crate) fn close_held(
-    trial: &Trial<'_>,
-    held: &mut Option<Slip>,
+/// Opens on one of the tallies.
+pub(crate) fn open_at<'t>(
+    heap: Global,
+    table: &'t Table,
+    lost: &[u16],
+    odd: &[u16],
+    tallies: &mut [Tally],
+    place: usize,
+) -> Result<Opened<'t>, Refusal>
+    requires { place < length tallies.old }
+    ensures { OpensOne result (outs tallies.old) (outs tallies.new) }
+{
+    open_on(heap, table, lost, odd, &mut tallies[place])
+}
+
+fn open_on<'t>(
+    heap: Global,
+    table: &'t Table,
+    lost: &[u16],
+    odd: &[u16],
     tally: &mut Tally,
-) -> Result<Answer, Stop> {
+) -> Result<Opened<'t>, Refusal>
+    ensures { OpensOne result (out tally.old) (out tally.new) }
+{
+    Trial::open(heap, table, lost, odd, tally)
+}
+
+/// Keeps a trial and its slip, for which there is room.
+pub(crate) fn keep<'t>(
+    opened: Opened<'t>,
+    trials: &mut Vec<Trial<'t>>,
+    slips: &mut Vec<Option<Slip>>,
+) -> Answer
+    requires number { opened.slip.number ≡ opened.trial.number }
+    requires trials { vec_len trials.old < vec_capacity trials.old }
+    requires slips { vec_len slips.old < vec_capacity slips.old }
+    requires own { Own slips.old.items (trial_numbers trials.old.items) }
+    requires as_many { length slips.old.items ≡ length trials.old.items }
+    ensures as_many { length slips.new.items ≡ length trials.new.items }
+    ensures own { Own slips.new.items (trial_numbers trials.new.items) }
+    ensures count { held slips.new.items ≡ held slips.old.items + 1 }
+{
+    let Opened { trial, slip } = opened;
+    let number = slip.number();
+    match slips.push(Some(slip)) {
+        Ok(()) => {}
+        Err(_) => unreachable(),
+    }
+    match trials.push(trial) {
+        Ok(()) => {}
+        Err(_) => unreachable(),
+    }
+    Answer::Number(number)
+}
+
+/// Closes with one of the slips, on one of the tallies.
+pub(crate) fn close_at(
+    trial: &Trial<'_>,
+    slips: &mut [Option<Slip>],
+    slip: usize,
+    tallies: &mut [Tally],
+    tally: usize,
+) -> Answer
+    requires slip { slip < length slips.old }
+    requires tally { tally < length tallies.old }
+    ensures count { outs tallies.new + held slips.old ≡ outs tallies.old + held slips.new }
+    ensures as_many { length slips.new ≡ length slips.old }
+    ensures own { (l : List ℕ) → Own slips.old l → Own slips.new l }
+{
+    close_held(trial, &mut slips[slip], &mut tallies[tally])
+}
+
+/// Closes with the slip that is held; a refused close puts it back.
+fn close_held(trial: &Trial<'_>, held: &mut Option<Slip>, tally: &mut Tally) -> Answer
+    ensures count { out tally.new + held_by held.old ≡ out tally.old + held_by held.new }
+    ensures kept { (held.new ≡ None) ⊎ (held.new ≡ held.old) }
+{
     let Some(slip) = held.take() else {
-        return Ok(Answer::Unknown);
+        return Answer::Unknown;
     };
     match trial.close(slip, tally) {
-        Ok(verdict) => Ok(Answer::Closed(verdict)),
+        Ok(verdict) => Answer::Closed(verdict),
         Err(NotClosed { refusal, slip }) => match held.replace(slip) {
-            None => Ok(Answer::Refused(refusal)),
-            Some(other) => Err(Stop::Loose(other)),
+            None => Answer::Refused(refusal),
+            Some(_) => unreachable(),
         },
     }
 }
 
-pub(crate) fn close_somewhere(
-    trial: &Trial<'_>,
-    slip: Slip,
-    tallies: &mut [Tally],
-) -> Result<(), Slip> {
-    let mut slip = slip;
-    for tally in tallies.iter_mut() {
-        match trial.close(slip, tally) {
-            Ok(_) => return Ok(()),
-            Err(not_closed) => {
-                let NotClosed {
-                    refusal: _,
-                    slip: back,
-                } = not_closed;
-                slip = back;
-            }
+/// Closes what is left out, the last slip first, each with its own trial.
+pub(crate) fn close_all(trials: &[Trial<'_>], slips: Vec<Option<Slip>>, tallies: &mut [Tally])
+    requires as_many { length slips.items ≤ length trials.now }
+    requires own { Own slips.items (trial_numbers trials.now) }
+    requires count { outs tallies.old ≡ held slips.items }
+{
+    let mut slips = slips;
+    match slips.pop() {
+        None => slips.destroy_empty(),
+        Some(None) => close_all(trials, slips, tallies),
+        Some(Some(slip)) => {
+            close_somewhere(&trials[slips.len()], slip, tallies);
+            close_all(trials, slips, tallies);
         }
     }
-    Err(slip)
 }
 
-/// Opens with nothing lost and nothing odd, and closes, so many times.
-pub(crate) fn churn_on(
-    heap: Global,
-    table: &Table,
-    tally: &mut Tally,
-    times: u32,
-) -> Result<Answer, Stop> {
-    for _ in 0..times {
-        match Trial::open(heap, table, &[], &[], tally) {
-            Ok(Opened { trial, slip }) => {
-                if let Err(NotClosed { refusal: _, slip }) = trial.close(slip, tally) {
-                    return Err(Stop::Loose(slip));
-                }
-            }
-            Err(refusal) => return Ok(Answer::Refused(refusal)),
+/// Closes with the trial's own slip, on the first tally that counts one out.
+fn close_somewhere(trial: &Trial<'_>, slip: Slip, tallies: &mut [Tally])
+    requires own { slip.number ≡ trial.now.number }
+    requires count { 0 < outs tallies.old }
+    ensures { outs tallies.new + 1 ≡ outs tallies.old }
+{
+    let place = first_out(tallies);
+    close_own(trial, slip, &mut tallies[place]);
+}
+
+fn close_own(trial: &Trial<'_>, slip: Slip, tally: &mut Tally)
+    requires own { slip.number ≡ trial.now.number }
+    requires count { 0 < out tally.old }
+    ensures { out tally.new + 1 ≡ out tally.old }
+{
+    match trial.close(slip, tally) {
+        Ok(_) => {}
+        Err(_) => unreachable(),
+    }
+}
+
+/// The first tally that counts a slip out.
+fn first_out(tallies: &[Tally]) -> usize
+    requires { 0 < outs tallies.now }
+    ensures place { result < length tallies.now }
+    ensures count { (d : Tally) → 0 < out (slice_index_or tallies.now result d) }
+{
+    for k in 0..tallies.len() {
+        let counts = tallies[k].counts();
+        if counts.solved + counts.nothing + counts.unfinished < counts.opened {
+            return k;
         }
     }
-    Ok(Answer::Done)
+    unreachable()
+}
+
+/// Opens with nothing lost and nothing odd, and closes, so many times, on one of the tallies.
+pub(crate) fn churn_at(
+    heap: Global,
+    table: &Table,
+    tallies: &mut [Tally],
+    place: usize,
+    times: u32,
+) -> Answer
+    requires { place < length tallies.old }
+    ensures { outs tallies.new ≡ outs tallies.old }
+{
+    churn_on(heap, table, &mut tallies[place], times)
+}
+
+fn churn_on(heap: Global, table: &Table, tally: &mut Tally, times: u32) -> Answer
+    ensures { out tally.new ≡ out tally.old }
+{
+    for _ in 0..times {
+        match open_on(heap, table, &[], &[], tally) {
+            Ok(Opened { trial, slip }) => close_own(&trial, slip, tally),
+            Err(refusal) => return Answer::Refused(refusal),
+        }
+    }
+    Answer::Done
 }

@@ -17,22 +17,21 @@
 mod bench;
 mod calling;
 mod codes;
-mod failing;
 mod reading;
 mod telling;
 
 use bench::Bench;
 use codes::Codes;
-use failing::{Failure, Stop};
 use reading::{Sequence, read_sequences};
 
-fn main(rt: HostRuntime) -> Result<(), Failure> {
+fn main(rt: HostRuntime) -> anyhow::Result<()> {
     let sequences = read_sequences(&rt)?;
     for sequence in sequences.iter() {
         let codes = play_codes(&rt, sequence)?;
         let mut bench = Bench::new(rt.alloc(), codes.tables());
         let played = play_trials(&rt, sequence, &mut bench);
-        bench.end(played)?;
+        bench.end();
+        played?;
     }
     Ok(())
 }
@@ -51,7 +50,7 @@ fn play_codes(rt: &HostRuntime, sequence: &Sequence) -> anyhow::Result<Codes> {
 }
 
 /// Plays the other steps.
-fn play_trials(rt: &HostRuntime, sequence: &Sequence, bench: &mut Bench) -> Result<(), Stop> {
+fn play_trials(rt: &HostRuntime, sequence: &Sequence, bench: &mut Bench) -> anyhow::Result<()> {
     for step in sequence.steps.iter() {
         if !step.makes_code() && !step.asks_code() {
             bench.play(rt, step)?;

@@ -1,11 +1,11 @@
 -- What stands at a place after changes at listed places.
-use Rattle.std.proofs.Common.{◌≡◌, ℕ, ◌<◌, Bool, true, false, cond, ◌||◌, eqb, ◌≢◌, ◌⊎◌, List, [], ◌∷◌, length, get_or, set, sym, refl, ap, ◌∙◌, inl, inr, arith, length-set, eq-eqb, ne_eqb, eqb-true}
+use Rattle.std.proofs.Common.{◌≡◌, ℕ, ◌<◌, Bool, true, false, cond, ◌||◌, eqb, ◌≢◌, List, [], ◌∷◌, length, get_or, set, sym, refl, ap, ◌∙◌, arith, length-set, eqb-true}
 use borrow.Author.Tests.{eqb-false}
 use Rattle.std.proofs.lemmas.List.{get_or-set_same, get_or-set_other}
-use Rattle.sets.specs.Lists.{In, Distinct}
+use Rattle.sets.specs.Lists.{Distinct}
 use Rattle.sets.specs.Sets.{has, among}
 use Rattle.sets.proofs.Bits.{deny, or_right}
-use Rattle.sets.proofs.Numbers.{among_in, in_among}
+use Rattle.sets.proofs.Numbers.{among_in}
 use Rattle.upkeep.specs.Changed.{changed, marked}
 
 module _ {X : Type 0} (d : X) (f : X → X) where

@@ -1,8 +1,8 @@
 -- A trial in which one qubit is done.
-use Rattle.std.proofs.Common.{◌≡◌, ℕ, ◌+◌, ◌<◌, ◌≤◌, Bool, true, false, cond, not, List, length, set, sym, refl, ap, ◌∙◌, add-zero, arith}
+use Rattle.std.proofs.Common.{◌≡◌, ℕ, ◌+◌, ◌<◌, ◌≤◌, Bool, true, false, cond, not, List, length, set, sym, ◌∙◌, add-zero, arith}
 use lib.ListN.{length-replicate}
 use Rattle.sets.specs.Lists.{Distinct}
-use Rattle.sets.specs.Sets.{has, row, less, plus, empty, only, among, size}
+use Rattle.sets.specs.Sets.{has, row, plus, empty, only, among, size}
 use Rattle.sets.proofs.Sets.{has_empty, only_self}
 use Rattle.sets.proofs.Sizes.{size_fewer, size_less}
 use Rattle.meaning.specs.Meaning.{Meaning, qubits}

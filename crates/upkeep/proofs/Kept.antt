@@ -1,7 +1,7 @@
 -- Tables that still fit after one qubit is done.
 use Rattle.std.proofs.Common.{◌≡◌, ℕ, ◌<◌, ◌≤◌, Bool, true, false, cond, List, map, length, get_or, set, sym, refl, ap, ◌∙◌, arith}
 use Rattle.std.proofs.lemmas.List.{map-set, get_or-map, length-map, set-get_or}
-use Rattle.sets.specs.Sets.{has, row, only, less, size, elements}
+use Rattle.sets.specs.Sets.{has, only, size, elements}
 use Rattle.sets.proofs.Sizes.{size_less}
 use Rattle.rules.specs.declared.answers.Status.{Status}
 use Rattle.rules.specs.declared.answers.Status.TheVariants.{Done}

@@ -1,16 +1,14 @@
 -- One qubit that is done, and the checks that turn with it.
-use Rattle.std.proofs.Common.{◌≡◌, ℕ, ◌<◌, ◌≤◌, Bool, true, false, cond, not, ◌&&◌, ◌≢◌, ◌⊎◌, List, [], ◌∷◌, map, length, get_or, set, sym, refl, ap, ◌∙◌, ap₂, inl, inr, arith, length-set}
-use lib.ListN.{length-replicate}
-use Rattle.std.proofs.lemmas.List.{length-map, get_or-set_same, get_or-set_other, get_or_past, set_past}
+use Rattle.std.proofs.Common.{◌≡◌, ℕ, ◌<◌, ◌≤◌, Bool, true, false, cond, not, ◌&&◌, ◌⊎◌, List, length, set, sym, refl, ap, ◌∙◌, inl, inr, arith, length-set}
+use Rattle.std.proofs.lemmas.List.{length-map, get_or-set_same, get_or-set_other, get_or_past}
 use Rattle.std.proofs.lemmas.Bool.{cases_eq, cases_lt}
 use Rattle.sets.specs.Bits.{flip}
 use Rattle.sets.specs.Lists.{Distinct}
 use Rattle.sets.specs.Sets.{has, row, less, plus, empty, only, among}
 use Rattle.sets.proofs.Bits.{deny, flip_false, flip_comm}
-use Rattle.sets.proofs.Sets.{ext, length_over, has_less, has_plus, has_empty, has_mapped, only_self, only_other, length_only, odd_nil, odd_only, odd_empty}
+use Rattle.sets.proofs.Sets.{ext, length_over, has_less, has_plus, only_self, only_other, length_only, odd_only, odd_empty}
 use Rattle.meaning.specs.Meaning.{Meaning, qubits}
 use Rattle.rules.specs.Reports.{syndrome}
-use Rattle.rules.specs.States.{State, finish}
 use Rattle.rules.proofs.Core.{has_syndrome}
 use Rattle.upkeep.specs.Changed.{turned}
 use Rattle.upkeep.proofs.Changed.{length_changed, changed_at}

@@ -1,11 +1,11 @@
 -- The tables of a trial as it is opened.
 use Rattle.std.proofs.Common.{◌≡◌, ℕ, zero, suc, ◌<◌, ◌≤◌, Bool, true, false, not, ◌||◌, ltb, ◌⊎◌, List, [], ◌∷◌, map, length, get_or, set, replicate, sym, refl, ap, ◌∙◌, inl, inr, arith, ltb-true}
 use lib.ListN.{length-replicate}
-use Rattle.std.proofs.lemmas.List.{map-set, get_or-map, length-map, set-get_or, get_or_past, get_or-set_same}
+use Rattle.std.proofs.lemmas.List.{map-set, get_or-map, length-map, set-get_or, get_or_past}
 use Rattle.std.proofs.lemmas.Bool.{cases_lt}
 use Rattle.sets.specs.Lists.{In}
-use Rattle.sets.specs.Sets.{has, row, empty, marks, among, elements}
-use Rattle.sets.proofs.Bits.{not_false, or_none, or_cases}
+use Rattle.sets.specs.Sets.{has, empty, marks, among, elements}
+use Rattle.sets.proofs.Bits.{not_false, or_none}
 use Rattle.sets.proofs.Lists.{in_get_or}
 use Rattle.sets.proofs.Marks.{length_marks, has_marks}
 use Rattle.sets.proofs.Sets.{ext, has_empty}

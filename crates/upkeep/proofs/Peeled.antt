@@ -1,8 +1,8 @@
 -- The one erased qubit of a dangling check.
-use Rattle.std.proofs.Common.{◌≡◌, ℕ, ◌<◌, ◌≤◌, Bool, true, false, cond, not, ◌&&◌, eqb, List, [], length, Ok, Err, Result, sym, refl, ap, ◌∙◌, ap₂, arith}
+use Rattle.std.proofs.Common.{◌≡◌, ℕ, ◌<◌, ◌≤◌, Bool, true, false, cond, not, ◌&&◌, eqb, [], length, Ok, Result, sym, refl, ap, ◌∙◌, ap₂, arith}
 use Rattle.std.proofs.lemmas.List.{get_or_past}
 use Rattle.terms.specs.declared.refusal.Refusal.{Refusal}
-use Rattle.sets.specs.Sets.{has, row, meet, any, only, empty, size, lowest}
+use Rattle.sets.specs.Sets.{has, row, meet, only, empty, size, lowest}
 use Rattle.sets.proofs.Bits.{same, and_pair}
 use Rattle.sets.proofs.Sets.{ext, row_of, length_over, length_only, has_meet, has_any, has_below, only_self, only_other}
 use Rattle.sets.proofs.Sizes.{one_only, lowest_has, size_none}

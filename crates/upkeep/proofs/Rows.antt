@@ -1,9 +1,7 @@
 -- What the first qubit of a row in a set, and all of them in it, say of the row's own set.
-use Rattle.std.proofs.Common.{◌≡◌, ℕ, Bool, true, false, cond, ◌&&◌, eqb, ◌⊎◌, List, [], ◌∷◌, length, Some, None, Option, sym, refl, ap, ◌∙◌, inl, inr, arith, eqb-true}
-use Rattle.sets.specs.Lists.{In}
+use Rattle.std.proofs.Common.{◌≡◌, ℕ, Bool, true, false, cond, eqb, ◌⊎◌, List, [], ◌∷◌, length, Some, None, sym, refl, ap, ◌∙◌, inl, inr, eqb-true}
 use Rattle.sets.specs.Sets.{has, among, within}
 use Rattle.sets.proofs.Bits.{same, clash, and_both, and_pair, or_left, or_right, or_cases}
-use Rattle.sets.proofs.Lists.{in_get_or}
 use Rattle.sets.proofs.Numbers.{eqb_same}
 use Rattle.sets.proofs.Sets.{within_has, has_within}
 use Rattle.upkeep.specs.Rows.{first_in, all_in}

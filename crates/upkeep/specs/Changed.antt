@@ -1,5 +1,5 @@
 -- Changes at listed places.
-use Rattle.std.specs.Prelude.{ℕ, ◌+◌, ◌-◌, min, Bool, true, false, not, List, [], ◌∷◌, set, slice_index_or, slice_set}
+use Rattle.std.specs.Prelude.{ℕ, ◌+◌, ◌-◌, min, Bool, true, false, not, List, [], ◌∷◌, slice_index_or, slice_set}
 
 -- each listed place, one after another, changed by f; places past the end change nothing
 abbrev pub changed : {X : Type 0} → X → (X → X) → List ℕ → List X → List X

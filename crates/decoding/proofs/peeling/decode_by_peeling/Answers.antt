@@ -1,4 +1,4 @@
-use Rattle.std.proofs.Common.{◌≡◌, Result, sym, refl, ◌∙◌, subst, inl}
+use Rattle.std.proofs.Common.{Result, sym, refl, ◌∙◌, subst, inl}
 use Rattle.std.proofs.lemmas.Result.{err_from_is_err_and}
 use Rattle.terms.specs.declared.refusal.Refusal.{Refusal}
 use Rattle.meaning.specs.Meaning.{Meaning}

@@ -14,8 +14,8 @@ loop-k-preserved c =
       high = λ k h. let ne : k ≢ c.loop-k.k = omega arith in rw get_or-set_other (c.loop-k.invariant.high k (omega arith));
     }
 
-pub shape-of-self : goal.shape-of-self
-shape-of-self c = c.loop-k.invariant.same_length
+pub shape_of-self : goal.shape_of-self
+shape_of-self c = c.loop-k.invariant.same_length
 
 pub returns : goal.returns
 returns c =

@@ -1,4 +1,4 @@
-use Rattle.std.proofs.Common.{sym, ap, ◌∙◌}
+use Rattle.std.proofs.Common.{sym, ap}
 use Rattle.rules.specs.Tallies.{Closed}
 use Rattle.table.specs.Stands.{table_sound}
 use Rattle.trial.specs.Model.{model}

@@ -1,4 +1,4 @@
-use Rattle.std.proofs.Common.{◌≡◌, cond, not, set, vec_items, refl, ap, ◌∙◌, arith}
+use Rattle.std.proofs.Common.{cond, not, set, vec_items, refl, ap, ◌∙◌}
 use Rattle.std.specs.Vec.{with_items}
 use Rattle.sets.specs.Sets.{has}
 use Rattle.upkeep.specs.Changed.{turned, lowered}
@@ -24,22 +24,15 @@ invariant_of-self c =
     ∙ ap (λ k. cond f (turned k (vec_items t.odd)) (vec_items t.odd)) c.checks_at-checks.ensures in
     let held = vec_items (with_items t.held c.lower_if_erased.new.held) in
     let flipped = vec_items (with_items t.flipped c.flip_if.new.flipped) in
-    let odd = vec_items (with_items t.odd c.turn_if.new.odd) in (
-      status_fits t q c.requires st c.index.ensures f flipped odd held is-flipped is_odd is_held_lem,
-      (
-        flipped_fits t q c.requires st c.index.ensures f flipped odd held is-flipped is_odd is_held_lem,
-        (
-          t.closed_fit,
-          (
-            odd_fits t q c.requires st c.index.ensures f flipped odd held is-flipped is_odd is_held_lem,
-            (
-              counts_fit t q c.requires st c.index.ensures f flipped odd held is-flipped is_odd is_held_lem,
-              (few_left t q c.requires st c.index.ensures f flipped odd held is-flipped is_odd is_held_lem, tt),
-            ),
-          ),
-        ),
-      ),
-    )
+    let odd = vec_items (with_items t.odd c.turn_if.new.odd) in
+    record {
+      status_fit = status_fits t q c.requires st c.index.ensures f flipped odd held is-flipped is_odd is_held_lem;
+      flipped_fit = flipped_fits t q c.requires st c.index.ensures f flipped odd held is-flipped is_odd is_held_lem;
+      closed_fit = t.closed_fit;
+      odd_fit = odd_fits t q c.requires st c.index.ensures f flipped odd held is-flipped is_odd is_held_lem;
+      counts_fit = counts_fit t q c.requires st c.index.ensures f flipped odd held is-flipped is_odd is_held_lem;
+      few = few_left t q c.requires st c.index.ensures f flipped odd held is-flipped is_odd is_held_lem;
+    }
 
 pub returns : goal.returns
 unfolding model

@@ -45,22 +45,15 @@ invariant_of-trial c =
     let m = length M.checks in
     let b = c.in_ok-status.field-0 in
     let is = c.in_ok-status.ensures in
-    let status = vec_items b.status in (
-      statuses_fit (qubits M) lost status is.erases,
-      (
-        ap length is.unflipped ∙ length-replicate (qubits M) false,
-        (
-          ap length is.unclosed ∙ length-replicate m false,
-          (
-            ap length is.marks ∙ length_changed false (λ _. true) odds (replicate m false) ∙ length-replicate m false,
-            (
-              is.counts,
-              (statuses_few (qubits M) lost status is.erases, tt),
-            ),
-          ),
-        ),
-      ),
-    )
+    let status = vec_items b.status in
+    record {
+      status_fit = statuses_fit (qubits M) lost status is.erases;
+      flipped_fit = ap length is.unflipped ∙ length-replicate (qubits M) false;
+      closed_fit = ap length is.unclosed ∙ length-replicate m false;
+      odd_fit = ap length is.marks ∙ length_changed false (λ _. true) odds (replicate m false) ∙ length-replicate m false;
+      counts_fit = is.counts;
+      few = statuses_few (qubits M) lost status is.erases;
+    }
 
 pub returns : goal.returns
 unfolding model

@@ -1,4 +1,4 @@
-use Rattle.std.proofs.Common.{◌≡◌, ◌<◌, false, length, vec_items, sym, refl, ap, ◌∙◌, ap₂, arith}
+use Rattle.std.proofs.Common.{◌<◌, false, length, vec_items, sym, refl, ◌∙◌, ap₂, arith}
 use Rattle.std.proofs.lemmas.List.{get_or_read}
 use Rattle.rules.specs.Calls.{peel_bars}
 use Rattle.table.specs.Stands.{table_sound}
@@ -43,7 +43,7 @@ invariant_of-self c =
     let q = c.in-Some-erased_among.qubit in
     let found = c.in-Some-erased_among.ensures ∙ ap₂ (λ l r. first_in (erased_of l) r) c.as_slice.ensures.value c.row-row.ensures in
     let more = room t u q _ (is_qubit t slip k c.in_default.ensures q found) (erased_is t slip k c.in_default.ensures q found) c.finish.ensures.does c.finish.ensures.table in
-    (u.status_fit, (u.flipped_fit, (u.closed_fit, (u.odd_fit, (u.counts_fit, (omega (arith, more), tt))))))
+    record { status_fit = u.status_fit; flipped_fit = u.flipped_fit; closed_fit = u.closed_fit; odd_fit = u.odd_fit; counts_fit = u.counts_fit; few = omega (arith, more) }
 
 pub returns : goal.returns
 unfolding model

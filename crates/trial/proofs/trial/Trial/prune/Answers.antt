@@ -1,4 +1,4 @@
-use Rattle.std.proofs.Common.{◌≡◌, sym, refl, ap, ◌∙◌, arith}
+use Rattle.std.proofs.Common.{sym, refl, arith}
 use Rattle.rules.specs.Calls.{prune_bars}
 use Rattle.table.specs.Stands.{table_sound}
 use Rattle.upkeep.proofs.Faults.{fault_some}
@@ -26,7 +26,7 @@ invariant_of-self c =
     let q = c.args.qubit in
     let l = c.args.generators.now in
     let more = room t u q _ (is_qubit t slip q l c.in_default.ensures) (erased_is t slip q l c.in_default.ensures) c.finish.ensures.does c.finish.ensures.table in
-    (u.status_fit, (u.flipped_fit, (u.closed_fit, (u.odd_fit, (u.counts_fit, (omega (arith, more), tt))))))
+    record { status_fit = u.status_fit; flipped_fit = u.flipped_fit; closed_fit = u.closed_fit; odd_fit = u.odd_fit; counts_fit = u.counts_fit; few = omega (arith, more) }
 
 pub returns : goal.returns
 unfolding model

@@ -1,5 +1,4 @@
-use Rattle.std.proofs.Common.{◌+◌, not, get_or, drop, sym, refl, ap, ◌∙◌, arith}
-use mathlib.Core.Bool.{beq}
+use Rattle.std.proofs.Common.{◌+◌, get_or, drop, sym, refl, ap, ◌∙◌, arith}
 use Rattle.std.proofs.lemmas.List.{at_drop_more, at_drop_all}
 use Rattle.sets.specs.Bits.{flip}
 use Rattle.sets.specs.Sets.{has, among}

@@ -1,5 +1,5 @@
 -- What a close and an opening do to the count of slips that are out, and that the calls on a trial keep its number.
-use Rattle.std.proofs.Common.{◌≡◌, ℕ, ◌+◌, ◌-◌, ◌<◌, Bool, true, false, cond, not, eqb, List, [], ◌∷◌, Some, Ok, Err, Result, sym, refl, ap, ◌∙◌, arith, eqb-true, eq-eqb}
+use Rattle.std.proofs.Common.{◌≡◌, ℕ, ◌+◌, ◌-◌, ◌<◌, Bool, true, false, cond, not, eqb, List, Some, Ok, Err, Result, sym, refl, ap, ◌∙◌, arith, eqb-true, eq-eqb}
 use Rattle.std.proofs.lemmas.Bool.{eqb-false}
 use Rattle.terms.specs.declared.refusal.Refusal.{Refusal}
 use Rattle.terms.specs.declared.refusal.Refusal.TheVariants.{WrongSlip}
@@ -7,12 +7,13 @@ use Rattle.meaning.specs.Meaning.{Meaning}
 use Rattle.rules.specs.declared.answers.Outcome.{Outcome}
 use Rattle.rules.specs.declared.answers.Outcome.TheVariants.{Solved, Nothing, Unfinished}
 use Rattle.rules.specs.declared.answers.Verdict.{Verdict}
-use Rattle.rules.specs.Refusing.{Bar, unless}
 use Rattle.rules.specs.Reports.{report}
 use Rattle.rules.specs.States.{State, opening}
 use Rattle.rules.specs.Calls.{peel_bars, peel, prune_bars, prune}
 use Rattle.rules.specs.Tallies as rules
+use Rattle.rules.specs.Companions.{Kept}
 use Rattle.rules.proofs.Bars.{guarded, accepted, passed, not_ok}
+use Rattle.rules.proofs.Refused.{refusals_keep}
 use Rattle.trial.specs.declared.tally.Tally.{Tally}
 use Rattle.trial.specs.declared.trial.Trial.{Trial}
 use Rattle.trial.specs.declared.trial.closing.NotClosed.{NotClosed}
@@ -73,15 +74,6 @@ module _ (s : State) (n : ℕ) (t u : Tally) where
           }
       go false false ea eb x = not_ok e.refusal (rules.verdict s) (ap (λ (y : rules.Closed). y.answer) x)
 
--- a refused call leaves what was there before
-refused_keeps : {A S : Type 0} (bars : List Bar) (s : S) (a : A) (u : S) (f : Refusal) → (unless bars s (Ok a, u)).0 ≡ Err f → (unless bars s (Ok a, u)).1 ≡ s
-refused_keeps [] s a u f e = not_ok f a (sym e)
-refused_keeps (b ∷ bars) s a u f e = go b.holds e (refused_keeps bars s a u f)
-  where
-    go : (t : Bool) → (cond t (Err b.says, s) (unless bars s (Ok a, u))).0 ≡ Err f → ((unless bars s (Ok a, u)).0 ≡ Err f → (unless bars s (Ok a, u)).1 ≡ s) → (cond t (Err b.says, s) (unless bars s (Ok a, u))).1 ≡ s
-    go true x ih = refl
-    go false x ih = ih x
-
 module _ (M : Meaning) (t u : Tally) (lost odds : List ℕ) where
   abbrev rule : Result rules.Opened Refusal × rules.Tally
   rule = rules.open_trial M (tally_of t) lost odds
@@ -104,10 +96,10 @@ module _ (M : Meaning) (t u : Tally) (lost odds : List ℕ) where
       let a : rules.closings (tally_of u) ≡ rules.closings (tally_of t) = ap rules.closings q in
       let b : u.counts.opened ≡ t.counts.opened + 1 = ap (λ (x : rules.Tally). x.opened) q in
       (omega (arith, t.balanced, u.balanced), ap (λ (x : rules.Opened). x.slip) is ∙ sym (ap (λ (x : rules.Opened). x.trial.number) is))
-  opens_one (Err e) h = go rule.0 rule.1 (refused_keeps (rules.open_bars M (tally_of t) lost odds) (tally_of t) given (rules.one_more (tally_of t))) h
+  opens_one (Err e) h = go rule.0 rule.1 ((refusals_keep M given.trial).open_kept (tally_of t) lost odds) h
     where
-      go : (told : Result rules.Opened Refusal) (later : rules.Tally) → ((f : Refusal) → told ≡ Err f → later ≡ tally_of t) → OpensAs (Err e) (tally_of t) (tally_of u) told later → out u ≡ out t
-      go (Err f) later keep x = ap (λ (y : rules.Tally). y.opened - rules.closings y) (x.1 ∙ keep f refl)
+      go : (told : Result rules.Opened Refusal) (later : rules.Tally) → Kept (tally_of t) (told, later) → OpensAs (Err e) (tally_of t) (tally_of u) told later → out u ≡ out t
+      go (Err f) later keep x = ap (λ (y : rules.Tally). y.opened - rules.closings y) (x.1 ∙ keep)
       go (Ok o) later keep x = ap (λ (y : rules.Tally). y.opened - rules.closings y) x.1
 
 -- the calls on a trial keep its number

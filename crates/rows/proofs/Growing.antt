@@ -1,41 +1,44 @@
 -- Rows that grow in place: one step after another, one number more, and the room that is left.
-use Rattle.std.proofs.Common.{◌≡◌, ℕ, ◌+◌, ◌-◌, ◌<◌, ◌≤◌, Bool, true, false, cond, eqb, ltb, ◌≢◌, List, [], ◌∷◌, ◌++◌, length, take, drop, set, sym, refl, ap, ◌∙◌, append_assoc, append-nil, arith, ltb-false, ltb-true, eq-eqb, eqb-true}
+use Rattle.std.proofs.Common.{◌≡◌, ℕ, ◌+◌, ◌-◌, ◌<◌, ◌≤◌, Bool, true, false, cond, eqb, ltb, ◌≢◌, List, [], ◌∷◌, ◌++◌, length, take, drop, set, vec_items, sym, refl, ap, ◌∙◌, append_assoc, append-nil, arith, ltb-false, ltb-true, eq-eqb, eqb-true}
 use borrow.Author.Tests.{eqb-false}
 use Rattle.std.proofs.lemmas.List.{length-append, length-drop, get_or-set_same, get_or-set_other, drop-set-add, drop-set-lt, take-set-le, take_more_set}
 use Rattle.rows.specs.declared.Span.{Span}
+use Rattle.rows.specs.declared.crossing.Columns.{Columns}
+use Rattle.rows.specs.Columns.{HasRoom, Grows}
 use Rattle.rows.specs.Cut.{cut, none}
 use Rattle.rows.specs.Growing.{span_at, Room, Grown, Counted}
 
 pub counted_then : (f g h : ℕ → ℕ) (a b c : List ℕ) → length b ≡ length a → ((q : ℕ) → h q ≡ f q + g q) → Counted f a b → Counted g b c → Counted h a c
 counted_then f g h a b c l e m n q k = omega (arith, m q k, n q (omega arith), e q)
 
-pub grown_none : (more : ℕ → List ℕ) (spans : List Span) (places : List ℕ) → ((q : ℕ) → q < length spans → more q ≡ []) → Grown more spans places spans places
-grown_none more spans places e =
-    record {
-      starts = λ q h. refl;
-      lens = λ q h. omega (arith, ap length (e q h));
-      rows = λ q h. sym (ap (λ l. cut places (span_at spans q) ++ l) (e q h) ∙ append-nil (cut places (span_at spans q)));
-    }
-
-module _ (f g h : ℕ → List ℕ) (a b : List Span) (x y : List ℕ) (l : length b ≡ length a) (m : Grown f a x b y) where
-  pub grown_then : (c : List Span) (z : List ℕ) → ((q : ℕ) → h q ≡ f q ++ g q) → Grown g b y c z → Grown h a x c z
-  grown_then c z e n =
+-- columns that grew by f, and then by g
+module _ (f g h : ℕ → List ℕ) (a b : Columns) (m : Grows f a b) where
+  pub grows_then : (c : Columns) → ((q : ℕ) → h q ≡ f q ++ g q) → Grows g b c → Grows h a c
+  grows_then c e n =
       record {
-        starts = λ q k. n.starts q (omega arith) ∙ m.starts q k;
-        lens = λ q k. omega (arith, n.lens q (omega arith), m.lens q k, ap length (e q), length-append (f q) (g q));
-        rows = λ q k.
-            n.rows q (omega arith)
-            ∙ ap (λ t. t ++ g q) (m.rows q k)
-            ∙ append_assoc (cut x (span_at a q)) (f q) (g q)
-            ∙ sym (ap (λ t. cut x (span_at a q) ++ t) (e q));
+        grown =
+            record {
+              starts = λ q k. n.grown.starts q (omega (arith, m.as_many)) ∙ m.grown.starts q k;
+              lens = λ q k. omega (arith, n.grown.lens q (omega (arith, m.as_many)), m.grown.lens q k, ap length (e q), length-append (f q) (g q));
+              rows = λ q k.
+                  n.grown.rows q (omega (arith, m.as_many))
+                  ∙ ap (λ t. t ++ g q) (m.grown.rows q k)
+                  ∙ append_assoc (cut (vec_items a.places) (span_at (vec_items a.spans) q)) (f q) (g q)
+                  ∙ sym (ap (λ t. cut (vec_items a.places) (span_at (vec_items a.spans) q) ++ t) (e q));
+            };
+        as_many = n.as_many ∙ m.as_many;
+        as_long = n.as_long ∙ m.as_long;
       }
 
   -- what is left of the room
-  pub room_then : (end : ℕ) → ((q : ℕ) → length (f q) + length (g q) ≤ length (h q)) → Room h a end → Room g b end
-  room_then end e r =
+  pub room_then : ((q : ℕ) → length (f q) + length (g q) ≤ length (h q)) → HasRoom h a → HasRoom g b
+  room_then e r =
+      let many = m.as_many in
+      let grown = m.grown in
       record {
-        apart = λ p q o k. omega (arith, r.apart p q o (omega arith), m.starts p (omega arith), m.lens p (omega arith), m.starts q (omega arith), e p);
-        ends = λ q k. omega (arith, r.ends q (omega arith), m.starts q (omega arith), m.lens q (omega arith), e q);
+        apart = λ p q o k.
+            omega (arith, r.apart p q o (omega (arith, many)), grown.starts p (omega (arith, many)), grown.lens p (omega (arith, many)), grown.starts q (omega (arith, many)), e p);
+        ends = λ q k. omega (arith, r.ends q (omega (arith, many)), grown.starts q (omega (arith, many)), grown.lens q (omega (arith, many)), e q, m.as_long);
       }
 
 -- a number written outside a part, and one written at its end

@@ -4,9 +4,8 @@ use Rattle.std.specs.List.{range_with_len}
 use Rattle.std.proofs.lemmas.List.FromFn.{fill_by_all}
 use Rattle.std.proofs.lemmas.List.{length-map, get_or-map, length_push, get_or_push, get_or_append_left, take_more}
 use Rattle.rows.specs.declared.Span.{Span}
-use Rattle.rows.specs.Cut.{cut, none}
+use Rattle.rows.specs.Cut.{cut, none, Within}
 use Rattle.rows.specs.Growing.{span_at, Room, Grown, Counts, Laid}
-use Rattle.rows.proofs.Cuts.{Within}
 
 pub laid_none : Laid [] [] 0
 laid_none = record { long = omega arith; empty = λ q h. absurd (omega arith); apart = λ p q o h. absurd (omega arith); ends = λ q h. absurd (omega arith) }

@@ -1,4 +1,4 @@
 pub mod Cut
-pub mod Read
 pub mod Crossing
 pub mod Growing
+pub mod Columns

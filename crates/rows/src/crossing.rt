@@ -2,8 +2,8 @@
 ghost use Rattle.std.specs.Prelude.{◌≡◌, [], ◌∷◌, map, length, IfOk, if◌then◌else◌, OnOk, nat_eq};
 ghost use Rattle.std.specs.List.{range_with_len};
 ghost use Rattle.rows.specs.Crossing.{times, namings, namers};
-ghost use Rattle.rows.specs.Growing.{Room, Grown, Counted, Counts, Laid};
-ghost use Rattle.rows.specs.Read.{rows_of};
+ghost use Rattle.rows.specs.Columns.{HasRoom, Grows};
+ghost use Rattle.rows.specs.Growing.{Counted, Counts, Laid};
 
 use super::{Rows, Span};
 use std::alloc::{AllocError, Global};
@@ -12,20 +12,21 @@ impl Rows {
     /// For each number below `columns`, the numbers of those of the first `count` rows that name it, rising.
     /// The rows are read twice: once to count, so that each column has a place of its own, and once to write.
     pub fn crossing(&self, heap: Global, count: u16, columns: u16) -> Result<Rows, AllocError>
-        ensures { IfOk result (λ c. rows_of c ≡ map (λ q. namers (rows_of self.now) q count) (range_with_len 0 columns)) }
+        ensures { IfOk result (λ c. c ≡ map (λ q. namers self.now q count) (range_with_len 0 columns)) }
     {
         let counts = counted(self, heap, count, columns)?;
-        let mut spans = Vec::with_capacity(heap, columns as usize)?;
-        let end = lay(counts.as_slice(), &mut spans)?;
-        let mut places: Vec<u16> = vec![in heap; 0; end]?;
-        mark_rows(self, count, spans.as_mut_slice(), places.as_mut_slice());
-        Ok(Rows { places, spans })
+        let mut growing = Columns::laid(heap, counts.as_slice())?;
+        growing.mark_rows(self, count);
+        Ok(Rows {
+            places: growing.places,
+            spans: growing.spans,
+        })
     }
 }
 
 /// How often the first `count` rows name each number below `columns`.
 fn counted(rows: &Rows, heap: Global, count: u16, columns: u16) -> Result<Vec<usize>, AllocError>
-    ensures { IfOk result (λ v. Counts (λ q. namers (rows_of rows.now) q count) columns v.items) }
+    ensures { IfOk result (λ v. Counts (λ q. namers rows.now q count) columns v.items) }
 {
     let mut counts: Vec<usize> = vec![in heap; 0; columns as usize]?;
     count_rows(rows, count, counts.as_mut_slice())?;
@@ -33,7 +34,7 @@ fn counted(rows: &Rows, heap: Global, count: u16, columns: u16) -> Result<Vec<us
 }
 
 fn count_rows(rows: &Rows, count: u16, counts: &mut [usize]) -> Result<(), AllocError>
-    ensures { OnOk result (Counted (λ q. length (namers (rows_of rows.now) q count)) counts.old counts.new) }
+    ensures { OnOk result (Counted (λ q. length (namers rows.now q count)) counts.old counts.new) }
 {
     for k in 0..count {
         count_row(rows.row(k as usize), counts)?;
@@ -54,63 +55,61 @@ fn count_row(row: &[u16], counts: &mut [usize]) -> Result<(), AllocError>
 fn count_one(q: usize, counts: &mut [usize]) -> Result<(), AllocError>
     ensures { OnOk result (Counted (λ p. (if nat_eq p q then 1 else 0)) counts.old counts.new) }
 {
-    if q >= counts.len() {
-        return Ok(());
+    if q < counts.len() {
+        counts[q] = counts[q].checked_add(1).ok_or(AllocError)?;
     }
-    let Some(more) = counts[q].checked_add(1) else {
-        return Err(AllocError);
-    };
-    counts[q] = more;
     Ok(())
 }
 
-/// Lays empty rows out, each with room for as many numbers as are counted, and says where they end.
-fn lay(counts: &[usize], spans: &mut Vec<Span>) -> Result<usize, AllocError>
-    requires { spans.old.items ≡ [] }
-    ensures { IfOk result (λ end. Laid counts.now spans.new.items end) }
-{
-    let mut start: usize = 0;
-    for count in counts {
-        spans.push(Span { start, len: 0 })?;
-        let Some(next) = start.checked_add(*count) else {
-            return Err(AllocError);
-        };
-        start = next;
-    }
-    Ok(start)
+/// Rows that grow in place.
+#[derive(Drop)]
+struct Columns {
+    spans: Vec<Span>,
+    places: Vec<u16>,
 }
 
-/// Appends the number of each of the first `count` rows to the columns that it names.
-fn mark_rows(rows: &Rows, count: u16, spans: &mut [Span], places: &mut [u16])
-    requires { Room (λ q. namers (rows_of rows.now) q count) spans.old (length places.old) }
-    ensures { Grown (λ q. namers (rows_of rows.now) q count) spans.old places.old spans.new places.new }
-{
-    for k in 0..count {
-        mark_row(k, rows.row(k as usize), spans, places);
+impl Columns {
+    /// Empty rows, each with room for as many numbers as are counted.
+    fn laid(heap: Global, counts: &[usize]) -> Result<Columns, AllocError>
+        ensures { IfOk result (λ c. Laid counts.now c.spans.items (length c.places.items)) }
+    {
+        let mut spans = Vec::with_capacity(heap, counts.len())?;
+        let mut start: usize = 0;
+        for count in counts {
+            spans.push(Span { start, len: 0 })?;
+            start = start.checked_add(*count).ok_or(AllocError)?;
+        }
+        let places: Vec<u16> = vec![in heap; 0; start]?;
+        Ok(Columns { spans, places })
     }
-}
 
-fn mark_row(k: u16, row: &[u16], spans: &mut [Span], places: &mut [u16])
-    requires { Room (λ q. namings q k row.now) spans.old (length places.old) }
-    ensures { Grown (λ q. namings q k row.now) spans.old places.old spans.new places.new }
-{
-    for q in row {
-        mark_one(k, *q as usize, spans, places);
+    /// Appends the number of each of the first `count` rows to the columns that it names.
+    fn mark_rows(&mut self, rows: &Rows, count: u16)
+        requires { HasRoom (λ q. namers rows.now q count) self.old }
+        ensures { Grows (λ q. namers rows.now q count) self.old self.new }
+    {
+        for k in 0..count {
+            self.mark_row(k, rows.row(k as usize));
+        }
     }
-}
 
-/// Appends a row's number to the column q; what is no column is passed over.
-fn mark_one(k: u16, q: usize, spans: &mut [Span], places: &mut [u16])
-    requires { Room (λ p. (if nat_eq p q then k ∷ [] else [])) spans.old (length places.old) }
-    ensures { Grown (λ p. (if nat_eq p q then k ∷ [] else [])) spans.old places.old spans.new places.new }
-{
-    if q >= spans.len() {
-        return;
+    fn mark_row(&mut self, k: u16, row: &[u16])
+        requires { HasRoom (λ q. namings q k row.now) self.old }
+        ensures { Grows (λ q. namings q k row.now) self.old self.new }
+    {
+        for q in row {
+            self.mark_one(k, *q as usize);
+        }
     }
-    let span = spans[q];
-    places[span.start + span.len] = k;
-    spans[q] = Span {
-        start: span.start,
-        len: span.len + 1,
-    };
+
+    /// Appends a row's number to the column q; what is no column is passed over.
+    fn mark_one(&mut self, k: u16, q: usize)
+        requires { HasRoom (λ p. (if nat_eq p q then k ∷ [] else [])) self.old }
+        ensures { Grows (λ p. (if nat_eq p q then k ∷ [] else [])) self.old self.new }
+    {
+        if let Some(span) = self.spans.get_mut(q) {
+            self.places[span.start + span.len] = k;
+            span.len += 1;
+        }
+    }
 }

@@ -1,11 +1,12 @@
 //! Rows of numbers, kept end to end.
 #![tactic(auto)]
 
-ghost use Rattle.std.specs.Prelude.{ℕ, ◌+◌, ◌<◌, ◌≤◌, length, slice_index_or};
-ghost use Rattle.rows.specs.Cut.{none};
+use std::marker::Model;
 
 mod calls;
 mod crossing;
+pub mod iter;
+mod part;
 mod telling;
 
 /// Where a row stands among the places.
@@ -16,9 +17,21 @@ pub struct Span {
 }
 
 /// Rows of numbers. All rows share one block of memory.
+// Kept: PLACEHOLDER rows end to end
 #[derive(Drop)]
 pub struct Rows {
     places: Vec<u16>,
     spans: Vec<Span>,
-    ghost within: { (k : ℕ) → k < length spans.items → (slice_index_or spans.items k none).start + (slice_index_or spans.items k none).len ≤ length places.items },
+}
+
+impl Model for Rows {
+    ghost use Rattle.std.specs.Prelude.{ℕ, List, map, length};
+    ghost use Rattle.rows.specs.Cut.{cut, Within};
+
+    // the rows, in order
+    ghost Value = { List (List ℕ) };
+
+    ghost view = { λ r. map (cut r.places.items) r.spans.items };
+
+    ghost invariant = { λ r. Within (length r.places.items) r.spans.items };
 }

@@ -1,7 +1,6 @@
 //! Rows that a code tells.
 ghost use Rattle.std.specs.Prelude.{◌≡◌, [], ◌∷◌, ◌++◌, is_ok, if◌then◌else◌};
 ghost use Rattle.code.specs.Whole.{row_told};
-ghost use Rattle.rows.specs.Read.{rows_of};
 
 use super::{Rows, Span};
 use code::Code;
@@ -12,7 +11,7 @@ impl Rows {
     /// Appends a row of a code in the order told, with no copy of it in between; an empty row where the code has no such row.
     /// Where memory is short, the rows stay as they were.
     pub fn push_row_of<C: Code>(&mut self, code: &C, row: Row) -> Result<(), AllocError>
-        ensures { rows_of self.new ≡ (if is_ok result then rows_of self.old ++ row_told (C.meaning code.now) (C.told code.now) row ∷ [] else rows_of self.old) }
+        ensures { self.new ≡ (if is_ok result then self.old ++ row_told (C.meaning code.now) (C.told code.now) row ∷ [] else self.old) }
     {
         let start = self.places.len();
         self.spans.reserve(1)?;

@@ -2,7 +2,6 @@ use Rattle.std.proofs.Common.{◌≡◌, ℕ, ◌<◌, List, length, get_or, rep
 use Rattle.std.proofs.lemmas.List.{with_items_is, length-replicate, get_or-replicate}
 use Rattle.rows.specs.Crossing.{namers}
 use Rattle.rows.specs.Growing.{Counts}
-use Rattle.rows.specs.Read.{rows_of}
 use Rattle.rows.proofs.crossing.counted.Goals as goal
 use Rattle.rows.proofs.crossing.counted.Goals.{In_ok-count_rows}
 
@@ -20,7 +19,7 @@ module _ (c : In_ok-count_rows) where
   same : length c.count_rows.new.counts ≡ c.in_ok-counts.counts.len
   same = omega (arith, long, c.in_ok-counts.ensures.len)
 
-  tallied : Counts (λ q. namers (rows_of c.args.rows.now) q c.args.count) n c.count_rows.new.counts
+  tallied : Counts (λ q. namers c.args.rows.now q c.args.count) n c.count_rows.new.counts
   tallied =
       record {
         long = omega (arith, long);
@@ -31,5 +30,5 @@ module _ (c : In_ok-count_rows) where
 
 pub returns : goal.returns
 returns c =
-    subst (λ (l : List ℕ). Counts (λ q. namers (rows_of c.args.rows.now) q c.args.count) c.args.columns l)
+    subst (λ (l : List ℕ). Counts (λ q. namers c.args.rows.now q c.args.count) c.args.columns l)
     (sym (with_items_is c.in_ok-counts.counts c.count_rows.new.counts (same c))) (tallied c)

@@ -1,5 +1,5 @@
 -- What is wrong with a listed code, if anything: the first fault in a fixed order.
-use Rattle.std.specs.Prelude.{ℕ, Bool, cond, ◌||◌, ltb, List, map, length, Some, None, Option, ◌==◌, nat_le, nat_lt}
+use Rattle.std.specs.Prelude.{ℕ, Bool, cond, ◌||◌, nat_lt, List, map, length, Some, None, Option, ◌==◌, nat_le, nat_lt}
 use Rattle.terms.specs.declared.refusal.Refusal.{Refusal}
 use Rattle.terms.specs.declared.refusal.Refusal.TheVariants.{OutsideLimits, QubitTooLarge, NotRising, LawFails}
 use Rattle.sets.specs.Sets.{marks, any, odd, repeats}
@@ -22,7 +22,7 @@ wrong_sizes checks generators sides = sides == 0 || nat_lt 2048 sides || nat_lt 
 
 -- wrong sizes, a row that is too long, or a side above 1
 unfoldable pub outside_limits : (checks generators : List (List ℕ)) (sides : List ℕ) → Bool
-outside_limits checks generators sides = wrong_sizes (length checks) (length generators) (length sides) || some_row too_long checks generators || any (map (ltb 1) sides)
+outside_limits checks generators sides = wrong_sizes (length checks) (length generators) (length sides) || some_row too_long checks generators || any (map (nat_lt 1) sides)
 
 -- some check and some generator share an odd number of the n qubits
 abbrev pub law_fails : ℕ → List (List ℕ) → List (List ℕ) → Bool

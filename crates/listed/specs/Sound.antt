@@ -14,7 +14,6 @@ use Rattle.meaning.specs.Telling.{Tells}
 use Rattle.meaning.specs.Listed.{listed_code, listed_told}
 use Rattle.meaning.specs.Codes.{Names, Even}
 use Rattle.meaning.proofs.Listed.{listed_sound, listed_tells}
-use Rattle.rows.specs.Read.{rows_of}
 use Rattle.listed.specs.declared.Listed.{Listed}
 use Rattle.listed.specs.Fault.{too_long, too_large, some_row, outside_limits, law_fails, listed_fault}
 use Rattle.listed.specs.OfListed.{sides_of, meaning_of, told_of}
@@ -109,8 +108,8 @@ module _ (checks generators : List (List ℕ)) (sides : List ℕ) where
 
 pub sound_of : (c : Listed) → Sound (meaning_of c)
 unfolding meaning_of
-sound_of c = fault_sound (rows_of c.checks) (rows_of c.generators) (vec_items c.sides) c.ok
+sound_of c = fault_sound c.checks c.generators (vec_items c.sides) c.ok
 
 pub tells_of : (c : Listed) → Tells (meaning_of c) (told_of c)
 unfolding meaning_of told_of
-tells_of c = fault_tells (rows_of c.checks) (rows_of c.generators) (vec_items c.sides) c.ok
+tells_of c = fault_tells c.checks c.generators (vec_items c.sides) c.ok

@@ -2,7 +2,6 @@
 #![tactic(auto)]
 
 ghost use Rattle.std.specs.Prelude.{◌≡◌, false, is_some};
-ghost use Rattle.rows.specs.Read.{rows_of};
 ghost use Rattle.listed.specs.Fault.{listed_fault};
 
 use rows::Rows;
@@ -17,5 +16,5 @@ pub struct Listed {
     checks: Rows,
     generators: Rows,
     sides: Vec<u8>,
-    ghost ok: { is_some (listed_fault (rows_of checks) (rows_of generators) sides.items) ≡ false },
+    ghost ok: { is_some (listed_fault checks generators sides.items) ≡ false },
 }

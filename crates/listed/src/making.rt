@@ -2,7 +2,6 @@
 ghost use Rattle.std.specs.Prelude.{◌≡◌};
 ghost use Rattle.terms.specs.Answering.{Answers};
 ghost use Rattle.meaning.specs.Listed.{listed_code, listed_told};
-ghost use Rattle.rows.specs.Read.{rows_of};
 ghost use Rattle.listed.specs.Fault.{listed_fault};
 ghost use Rattle.listed.specs.OfListed.{sides_of, meaning_of, told_of};
 
@@ -14,7 +13,7 @@ use terms::refusal::Refusal;
 impl Listed {
     /// The code of the given tables, which it takes over, or the first fault of the tables. Allocates nothing.
     pub fn new(sides: Vec<u8>, checks: Rows, generators: Rows) -> Result<Listed, Refusal>
-        ensures { Answers result (listed_fault (rows_of checks) (rows_of generators) sides.items) (λ c. (meaning_of c ≡ listed_code (rows_of checks) (rows_of generators) (sides_of sides.items)) × (told_of c ≡ listed_told (rows_of checks) (rows_of generators))) }
+        ensures { Answers result (listed_fault checks generators sides.items) (λ c. (meaning_of c ≡ listed_code checks generators (sides_of sides.items)) × (told_of c ≡ listed_told checks generators)) }
     {
         match fault(&checks, &generators, &sides) {
             Some(refusal) => Err(refusal),

@@ -3,7 +3,6 @@ use Rattle.std.proofs.Common.{◌≡◌, length, vec_items, sym}
 use lib.ListN.{length-map}
 use Rattle.sets.specs.Sets.{marks}
 use Rattle.meaning.specs.Meaning.{qubits}
-use Rattle.rows.specs.Read.{rows_of}
 use Rattle.table.specs.declared.Table.{Table}
 use Rattle.table.specs.Held.{on_side_one}
 use Rattle.table.specs.OfTable.{meaning_of}
@@ -13,10 +12,10 @@ module _ (t : Table) where
   unfolding meaning_of
   as_many_qubits = sym (length-map (vec_items t.sides) on_side_one)
 
-  pub as_many_checks : length (rows_of t.checks) ≡ length (meaning_of t).checks
+  pub as_many_checks : length t.checks ≡ length (meaning_of t).checks
   unfolding meaning_of
-  as_many_checks = sym (length-map (rows_of t.checks) (marks (qubits (meaning_of t))))
+  as_many_checks = sym (length-map t.checks (marks (qubits (meaning_of t))))
 
-  pub as_many_generators : length (rows_of t.generators) ≡ length (meaning_of t).generators
+  pub as_many_generators : length t.generators ≡ length (meaning_of t).generators
   unfolding meaning_of
-  as_many_generators = sym (length-map (rows_of t.generators) (marks (qubits (meaning_of t))))
+  as_many_generators = sym (length-map t.generators (marks (qubits (meaning_of t))))

@@ -12,7 +12,6 @@ use Rattle.terms.specs.declared.row.Row.TheVariants.{Check, Generator}
 use Rattle.sets.specs.Sets.{marks}
 use Rattle.meaning.specs.Meaning.{Meaning, Sound, qubits}
 use Rattle.meaning.specs.Telling.{Tells, is_row}
-use Rattle.rows.specs.Read.{rows_of}
 use Rattle.table.specs.declared.Table.{Table}
 use Rattle.table.specs.OfTable.{meaning_of, told_of}
 
@@ -44,5 +43,5 @@ table_tells t = ∥∥₁_elim t.tells (tells_prop (meaning_of t) (told_of t)) (
 
 pub table_tells_none : (t : Table) (r : Row) → is_row (meaning_of t) r ≡ false → told_of t r ≡ []
 unfolding meaning_of told_of
-table_tells_none t (Check k) h = get_or_past (rows_of t.checks) k [] (omega (arith, ltb-false k _ h, length-map (rows_of t.checks) (marks (qubits (meaning_of t)))))
-table_tells_none t (Generator k) h = get_or_past (rows_of t.generators) k [] (omega (arith, ltb-false k _ h, length-map (rows_of t.generators) (marks (qubits (meaning_of t)))))
+table_tells_none t (Check k) h = get_or_past t.checks k [] (omega (arith, ltb-false k _ h, length-map t.checks (marks (qubits (meaning_of t)))))
+table_tells_none t (Generator k) h = get_or_past t.generators k [] (omega (arith, ltb-false k _ h, length-map t.generators (marks (qubits (meaning_of t)))))

@@ -5,7 +5,6 @@ ghost use Rattle.std.specs.Prelude.{◌≡◌, length};
 ghost use Rattle.meaning.specs.Listed.{listed_told};
 ghost use Rattle.meaning.specs.Meaning.{Sound};
 ghost use Rattle.meaning.specs.Telling.{Tells};
-ghost use Rattle.rows.specs.Read.{rows_of};
 ghost use Rattle.table.specs.Columns.{columns};
 ghost use Rattle.table.specs.Held.{held_code};
 
@@ -24,8 +23,8 @@ pub struct Table {
     checks_at: Rows,
     generators_at: Rows,
     sides: Vec<Side>,
-    ghost sound: { ∥ Sound (held_code (rows_of checks) (rows_of generators) sides.items) ∥₁ },
-    ghost tells: { ∥ Tells (held_code (rows_of checks) (rows_of generators) sides.items) (listed_told (rows_of checks) (rows_of generators)) ∥₁ },
-    ghost check_columns: { rows_of checks_at ≡ columns (length sides.items) (held_code (rows_of checks) (rows_of generators) (sides.items)).checks },
-    ghost generator_columns: { rows_of generators_at ≡ columns (length sides.items) (held_code (rows_of checks) (rows_of generators) (sides.items)).generators },
+    ghost sound: { ∥ Sound (held_code checks generators sides.items) ∥₁ },
+    ghost tells: { ∥ Tells (held_code checks generators sides.items) (listed_told checks generators) ∥₁ },
+    ghost check_columns: { checks_at ≡ columns (length sides.items) (held_code checks generators (sides.items)).checks },
+    ghost generator_columns: { generators_at ≡ columns (length sides.items) (held_code checks generators (sides.items)).generators },
 }

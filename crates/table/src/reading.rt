@@ -4,7 +4,6 @@ ghost use Rattle.std.specs.List.{range_with_len};
 ghost use Rattle.terms.specs.Rows.{side_of};
 ghost use Rattle.terms.specs.declared.row.Row.TheVariants.{Check};
 ghost use Rattle.meaning.specs.Telling.{is_row};
-ghost use Rattle.rows.specs.Read.{rows_of};
 
 use code::Code;
 use rows::Rows;
@@ -28,7 +27,7 @@ pub(crate) fn sides<C: Code>(heap: Global, code: &C) -> Result<Vec<Side>, AllocE
 
 /// The qubits of each check, in the order told. (The generators are the checks of the turned code.)
 pub(crate) fn check_rows<C: Code>(heap: Global, code: &C) -> Result<Rows, AllocError>
-    ensures { IfOk result (λ t. rows_of t ≡ map (λ k. C.told code.now (Check k)) (range_with_len 0 (length (C.meaning code.now).checks))) }
+    ensures { IfOk result (λ t. t ≡ map (λ k. C.told code.now (Check k)) (range_with_len 0 (length (C.meaning code.now).checks))) }
 {
     let mut rows = Rows::new(heap);
     let mut row = Vec::new(heap);

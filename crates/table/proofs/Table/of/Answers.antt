@@ -5,7 +5,6 @@ use Rattle.terms.specs.declared.row.Side.{Side}
 use Rattle.meaning.specs.Listed.{listed_told}
 use Rattle.meaning.specs.Meaning.{Meaning, Sound}
 use Rattle.meaning.specs.Telling.{Tells, is_row}
-use Rattle.rows.specs.Read.{rows_of}
 use Rattle.table.specs.Columns.{columns}
 use Rattle.table.specs.Held.{held_code}
 use Rattle.table.specs.OfTable.{meaning_of, told_of}
@@ -28,10 +27,10 @@ module _ (g : given.Over) (c : In_ok-generators_at g) where
   t = g.C.Code.tells c.args.code.now
 
   abbrev cs : List (List ℕ)
-  cs = rows_of c.in_ok-checks.checks
+  cs = c.in_ok-checks.checks
 
   abbrev gs : List (List ℕ)
-  gs = rows_of c.in_ok-generators.generators
+  gs = c.in_ok-generators.generators
 
   abbrev sides : List Side
   sides = vec_items c.in_ok-sides.sides
@@ -48,15 +47,15 @@ module _ (g : given.Over) (c : In_ok-generators_at g) where
   tells : Tells (held_code cs gs sides) (listed_told cs gs)
   tells = held_tells M told s t cs gs sides c.in_ok-checks.ensures c.in_ok-generators.ensures c.in_ok-sides.ensures
 
-  at_checks : rows_of c.in_ok-checks_at.checks_at ≡ columns (length sides) (held_code cs gs sides).checks
+  at_checks : c.in_ok-checks_at.checks_at ≡ columns (length sides) (held_code cs gs sides).checks
   at_checks =
       check_columns M told s t cs gs sides c.in_ok-checks.ensures c.in_ok-generators.ensures c.in_ok-sides.ensures
-      (rows_of c.in_ok-checks_at.checks_at) c.checks.result c.qubits-qubits.result c.qubits-qubits.ensures c.checks.ensures c.in_ok-checks_at.ensures
+      c.in_ok-checks_at.checks_at c.checks.result c.qubits-qubits.result c.qubits-qubits.ensures c.checks.ensures c.in_ok-checks_at.ensures
 
-  at_generators : rows_of c.in_ok-generators_at.generators_at ≡ columns (length sides) (held_code cs gs sides).generators
+  at_generators : c.in_ok-generators_at.generators_at ≡ columns (length sides) (held_code cs gs sides).generators
   at_generators =
       generator_columns M told s t cs gs sides c.in_ok-checks.ensures c.in_ok-generators.ensures c.in_ok-sides.ensures
-      (rows_of c.in_ok-generators_at.generators_at) c.generators.result c.qubits-qubits.result c.qubits-qubits.ensures c.generators.ensures c.in_ok-generators_at.ensures
+      c.in_ok-generators_at.generators_at c.generators.result c.qubits-qubits.result c.qubits-qubits.ensures c.generators.ensures c.in_ok-generators_at.ensures
 
 pub invariant_of-result : goal.invariant_of-result
 invariant_of-result g c = record { sound = ∣ sound g c ∣₁; tells = ∣ tells g c ∣₁; check_columns = at_checks g c; generator_columns = at_generators g c }

@@ -1,7 +1,6 @@
 use Rattle.std.proofs.Common.{length, vec_items, arith}
 use lib.ListN.{length-map}
 use Rattle.sets.specs.Sets.{marks}
-use Rattle.rows.specs.Read.{rows_of}
 use Rattle.listed.specs.OfListed.{sides_of, meaning_of}
 use Rattle.listed.proofs.Limits.{limits_of}
 use Rattle.listed.proofs.answers.ListedCode.generators.Goals as goal
@@ -13,4 +12,4 @@ pub returns : goal.returns
 unfolding meaning_of
 returns c =
     let code = c.args.self.now in
-    omega (arith, length-map (rows_of code.generators) (marks (length (sides_of (vec_items code.sides)))))
+    omega (arith, length-map code.generators (marks (length (sides_of (vec_items code.sides)))))

@@ -1,6 +1,6 @@
 //! The refusals: what is wrong with a call that is turned down.
-ghost use Rattle.std.specs.Prelude.{◌≡◌};
-ghost use Rattle.terms.specs.Refusals.{number, wording};
+ghost use Rattle.std.specs.Prelude.{◌≡◌, Some};
+ghost use Rattle.terms.specs.Refusals.{number, wording, refusal_words};
 ghost use Rattle.terms.specs.declared.refusal.Refusal.TheVariants.{NoMemory};
 
 use std::alloc::{AllocError, AllocFailed};
@@ -99,6 +99,19 @@ impl Refusal {
             Refusal::TallyFull => "the tally has opened 1000000 trials",
             Refusal::WrongSlip => "the slip is not the trial's, or the tally has no slip out",
             Refusal::NoMemory => "there is not enough memory",
+        }
+    }
+}
+
+/// `refused`, the number where there is one, and the meaning.
+impl fmt::Display for Refusal {
+    ghost output = { λ f. Some (refusal_words f) };
+
+    fn fmt<W: fmt::Write>(&self, f: &mut fmt::Formatter<W>) -> fmt::Result {
+        let wording = self.wording();
+        match self.number() {
+            Some(number) => write!(f, "refused {number}: {wording}"),
+            None => write!(f, "refused: {wording}"),
         }
     }
 }

@@ -4,6 +4,7 @@ ghost use Rattle.terms.specs.Refusals.{number, wording, refusal_words};
 ghost use Rattle.terms.specs.declared.refusal.Refusal.TheVariants.{NoMemory};
 
 use std::alloc::{AllocError, AllocFailed};
+use std::error::Error;
 use std::fmt;
 
 /// Why a call was turned down. Up to `ScratchNotZero` the input is at fault, after that the state; `NoMemory` is neither, and has no number.
@@ -115,6 +116,8 @@ impl fmt::Display for Refusal {
         }
     }
 }
+
+impl Error for Refusal {}
 
 impl From<AllocError> for Refusal {
     ghost from_gives = { λ _ r. r ≡ NoMemory };

@@ -1,10 +1,11 @@
 -- A code whose tables have no fault is sound, and tells its rows whole. (The code's ghost members cite these proofs.)
-use Rattle.std.specs.Prelude.{◌≡◌, ℕ, ◌≤◌, Bool, true, false, cond, List, map, length, is_some, Some, None, vec_items, Option, nat_eq, nat_le, refl}
+use Rattle.std.specs.Prelude.{◌≡◌, ℕ, ◌≤◌, false, List, map, length, is_some, Some, None, vec_items, Option, nat_eq, nat_le, nat_lt, refl}
 use Rattle.std.proofs.Common.{sym, subst, arith}
 use Rattle.std.proofs.lemmas.List.{length-map}
 use borrow.Author.Tests.{eqb-false, ltb-false}
 use Rattle.std.proofs.lemmas.Bool.{leb-false}
 use Rattle.terms.specs.declared.refusal.Refusal.{Refusal}
+use Rattle.terms.proofs.Answering.{test_fails}
 use Rattle.sets.specs.Lists.{In}
 use Rattle.sets.specs.Sets.{marks, any, odd, repeats}
 use Rattle.sets.proofs.Any.{any_false}
@@ -18,13 +19,8 @@ use Rattle.listed.specs.declared.Listed.{Listed}
 use Rattle.listed.specs.Fault.{too_long, too_large, some_row, outside_limits, law_fails, listed_fault}
 use Rattle.listed.specs.OfListed.{sides_of, meaning_of, told_of}
 
--- a chain of tests that finds no fault
-unless : (b : Bool) (e : Refusal) (o : Option Refusal) → cond b (Some e) o ≡ None → (b ≡ false) × (o ≡ None)
-unless true e o h = let z : ◌≡◌ {A = ℕ} 0 1 = cc in absurd (omega arith)
-unless false e o h = (refl, h)
-
 no_fault : (o : Option Refusal) → is_some o ≡ false → o ≡ None
-no_fault (Some e) h = let z : ◌≡◌ {A = ℕ} 0 1 = cc in absurd (omega arith)
+no_fault (Some e) h = grind arith
 no_fault None h = refl
 
 -- rows without the two faults of a row
@@ -46,10 +42,10 @@ module _ (checks generators : List (List ℕ)) (sides : List ℕ) where
   clean : is_some (listed_fault checks generators sides) ≡ false → Clean checks generators sides
   unfolding listed_fault
   clean h =
-      let a = unless _ _ _ (no_fault (listed_fault checks generators sides) h) in
-      let b = unless _ _ _ a.1 in
-      let d = unless _ _ _ b.1 in
-      let e = unless _ _ _ d.1 in
+      let a = test_fails _ _ _ (no_fault (listed_fault checks generators sides) h) in
+      let b = test_fails _ _ _ a.1 in
+      let d = test_fails _ _ _ b.1 in
+      let e = test_fails _ _ _ d.1 in
       record { limits = a.0; low = b.0; once = d.0; even = e.0 }
 
   -- the limits that the tables keep
@@ -60,6 +56,7 @@ module _ (checks generators : List (List ℕ)) (sides : List ℕ) where
     pub few_generators : length generators ≤ 256
     pub short_checks : (row : List ℕ) → In row checks → length row ≤ 16
     pub short_generators : (row : List ℕ) → In row generators → length row ≤ 16
+    pub sided : (side : ℕ) → In side sides → side ≤ 1
 
   pub limits : is_some (listed_fault checks generators sides) ≡ false → Limits
   unfolding outside_limits
@@ -78,6 +75,7 @@ module _ (checks generators : List (List ℕ)) (sides : List ℕ) where
         few_generators = ltb-false 256 (length generators) d.1;
         short_checks = λ row m. ltb-false 16 (length row) (any_false too_long checks g.0 row m);
         short_generators = λ row m. ltb-false 16 (length row) (any_false too_long generators g.1 row m);
+        sided = λ side m. ltb-false 1 side (any_false (nat_lt 1) sides a.1 side m);
       }
 
   check_names : is_some (listed_fault checks generators sides) ≡ false → Names (length sides) checks

@@ -1,5 +1,5 @@
 //! The answers of a listed code.
-ghost use Rattle.std.specs.Prelude.{◌≡◌};
+ghost use Rattle.std.specs.Prelude.{◌≡◌, true, false, MatchOption};
 ghost use Rattle.meaning.specs.Telling.{is_row};
 ghost use Rattle.listed.specs.OfListed.{meaning_of, told_of};
 ghost use Rattle.listed.specs.Sound.{sound_of, tells_of};
@@ -9,23 +9,13 @@ use code::Code;
 use terms::row::{Row, Side};
 
 impl Listed {
-    /// Whether the code has the row.
-    fn has(&self, row: Row) -> bool
-        ensures { result ≡ is_row (meaning_of self.now) row }
-    {
-        match row {
-            Row::Check(k) => (k as usize) < self.checks.len(),
-            Row::Generator(k) => (k as usize) < self.generators.len(),
-        }
-    }
-
     /// The qubits of a row, as they are listed.
-    fn row(&self, row: Row) -> &[u16]
-        ensures { result.now ≡ told_of self.now row }
+    fn row(&self, row: Row) -> Option<&[u16]>
+        ensures { MatchOption result (is_row (meaning_of self.now) row ≡ false) (λ r. (is_row (meaning_of self.now) row ≡ true) × (r.now ≡ told_of self.now row)) }
     {
         match row {
-            Row::Check(k) => self.checks.row(k as usize),
-            Row::Generator(k) => self.generators.row(k as usize),
+            Row::Check(k) => self.checks.get(k as usize),
+            Row::Generator(k) => self.generators.get(k as usize),
         }
     }
 }
@@ -52,31 +42,16 @@ impl Code for Listed {
     }
 
     fn side(&self, qubit: u16) -> Option<Side> {
-        match self.sides.get(qubit as usize) {
-            Some(side) => {
-                if *side == 1 {
-                    Some(Side::One)
-                } else {
-                    Some(Side::Zero)
-                }
-            }
-            None => None,
-        }
+        let side = self.sides.get(qubit as usize)?;
+        Side::try_from(*side).ok()
     }
 
     fn row_len(&self, row: Row) -> Option<u16> {
-        if self.has(row) {
-            Some(self.row(row).len() as u16)
-        } else {
-            None
-        }
+        let qubits = self.row(row)?;
+        Some(qubits.len() as u16)
     }
 
     fn row_qubit(&self, row: Row, k: u16) -> Option<u16> {
-        if self.has(row) {
-            self.row(row).get(k as usize).copied()
-        } else {
-            None
-        }
+        self.row(row)?.get(k as usize).copied()
     }
 }

@@ -1,66 +1,73 @@
 //! The faults of listed tables.
-ghost use Rattle.std.specs.Prelude.{◌≡◌, nat_lt};
+ghost use Rattle.std.specs.Prelude.{◌≡◌, ◌||◌, ◌++◌, length, is_err};
 ghost use Rattle.std.specs.List.{list_any};
+ghost use Rattle.terms.specs.Answering.{checked};
+ghost use Rattle.terms.specs.Rows.{side_numbered};
 ghost use Rattle.sets.specs.Sets.{repeats};
-ghost use Rattle.listed.specs.Fault.{too_long, too_large, outside_limits, listed_fault};
+ghost use Rattle.listed.specs.Fault.{too_long, too_large, wrong_sizes, listed_fault};
 ghost use Rattle.listed.specs.Shares.{shares_odd};
 
 use rows::Rows;
 use terms::refusal::Refusal;
+use terms::row::Side;
 
-/// The first fault of the tables.
-pub(crate) fn fault(checks: &Rows, generators: &Rows, sides: &[u8]) -> Option<Refusal>
-    ensures { result ≡ listed_fault checks.now generators.now sides.now }
+/// Refuses tables with a fault, by the first one.
+pub(crate) fn check(checks: &Rows, generators: &Rows, sides: &[u8]) -> Result<(), Refusal>
+    ensures { result ≡ checked (listed_fault checks.now generators.now sides.now) }
 {
-    let qubits = sides.len();
     if outside_limits(checks, generators, sides) {
-        return Some(Refusal::OutsideLimits);
+        return Err(Refusal::OutsideLimits);
     }
-    if some_too_large(checks, qubits) || some_too_large(generators, qubits) {
-        return Some(Refusal::QubitTooLarge);
+    if some_too_large(checks, generators, sides.len()) {
+        return Err(Refusal::QubitTooLarge);
     }
-    if some_repeats(checks) || some_repeats(generators) {
-        return Some(Refusal::NotRising);
+    if some_repeats(checks, generators) {
+        return Err(Refusal::NotRising);
     }
     // From here on each row names a qubit once, so that counting its places counts its qubits.
     if law_fails(checks, generators) {
-        return Some(Refusal::LawFails);
+        return Err(Refusal::LawFails);
     }
-    None
+    Ok(())
 }
 
 /// Whether a size or a side is outside its limits.
 fn outside_limits(checks: &Rows, generators: &Rows, sides: &[u8]) -> bool
-    ensures { result ≡ outside_limits checks.now generators.now sides.now }
+    ensures { result ≡ (wrong_sizes (length checks.now) (length generators.now) (length sides.now) || list_any too_long (checks.now ++ generators.now) || list_any (λ n. is_err (side_numbered n)) sides.now) }
 {
     sides.is_empty()
         || sides.len() > 2048
         || checks.len() > 256
         || generators.len() > 256
-        || some_too_long(checks)
-        || some_too_long(generators)
-        || some_above_one(sides)
+        || some_too_long(checks, generators)
+        || some_unsided(sides)
 }
 
-/// Whether a side is neither 0 nor 1.
-fn some_above_one(sides: &[u8]) -> bool
-    ensures { result ≡ list_any (nat_lt 1) sides.now }
+/// Whether a number is that of no side.
+fn some_unsided(sides: &[u8]) -> bool
+    ensures { result ≡ list_any (λ n. is_err (side_numbered n)) sides.now }
 {
-    sides.iter().any(|side| *side > 1)
+    sides.iter().any(|side| Side::try_from(*side).is_err())
 }
 
 /// Whether a row has more than 16 numbers.
-fn some_too_long(rows: &Rows) -> bool
-    ensures { result ≡ list_any too_long rows.now }
+fn some_too_long(checks: &Rows, generators: &Rows) -> bool
+    ensures { result ≡ list_any too_long (checks.now ++ generators.now) }
 {
-    rows.iter().any(|row| row.len() > 16)
+    checks
+        .iter()
+        .chain(generators.iter())
+        .any(|row| row.len() > 16)
 }
 
 /// Whether a row names a number that is not below `qubits`.
-fn some_too_large(rows: &Rows, qubits: usize) -> bool
-    ensures { result ≡ list_any (too_large qubits) rows.now }
+fn some_too_large(checks: &Rows, generators: &Rows, qubits: usize) -> bool
+    ensures { result ≡ list_any (too_large qubits) (checks.now ++ generators.now) }
 {
-    rows.iter().any(|row| too_large(row, qubits))
+    checks
+        .iter()
+        .chain(generators.iter())
+        .any(|row| too_large(row, qubits))
 }
 
 fn too_large(row: &[u16], qubits: usize) -> bool
@@ -70,10 +77,13 @@ fn too_large(row: &[u16], qubits: usize) -> bool
 }
 
 /// Whether a row names a number twice.
-fn some_repeats(rows: &Rows) -> bool
-    ensures { result ≡ list_any repeats rows.now }
+fn some_repeats(checks: &Rows, generators: &Rows) -> bool
+    ensures { result ≡ list_any repeats (checks.now ++ generators.now) }
 {
-    rows.iter().any(|row| repeats(row))
+    checks
+        .iter()
+        .chain(generators.iter())
+        .any(|row| repeats(row))
 }
 
 fn repeats(row: &[u16]) -> bool

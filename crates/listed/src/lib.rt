@@ -15,6 +15,7 @@ mod making;
 pub struct Listed {
     checks: Rows,
     generators: Rows,
+    // Kept: `new` takes over the caller's bytes, for a list of sides in their place would have to be allocated, and `new` can't run out of memory.
     sides: Vec<u8>,
     ghost ok: { is_some (listed_fault checks generators sides.items) ≡ false },
 }

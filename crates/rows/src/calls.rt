@@ -1,5 +1,6 @@
 //! Making and reading rows.
 ghost use Rattle.std.specs.Prelude.{◌≡◌, [], ◌∷◌, ◌++◌, length, is_ok, if◌then◌else◌, slice_index_or};
+ghost use Rattle.std.specs.Slice.{IsItemAt};
 
 use super::{Rows, Span};
 use std::alloc::{AllocError, Global};
@@ -37,13 +38,18 @@ impl Rows {
         self.spans.len()
     }
 
+    /// The numbers of a row, if there is such a row.
+    pub fn get(&self, k: usize) -> Option<&[u16]>
+        ensures { IsItemAt self.now k result }
+    {
+        let span = self.spans.get(k)?;
+        Some(span.of(&self.places))
+    }
+
     /// The numbers of a row; none where there is no such row.
     pub fn row(&self, k: usize) -> &[u16]
         ensures { result.now ≡ slice_index_or self.now k [] }
     {
-        match self.spans.get(k) {
-            Some(span) => span.of(&self.places),
-            None => &[],
-        }
+        self.get(k).unwrap_or(&[])
     }
 }

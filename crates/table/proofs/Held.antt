@@ -2,13 +2,14 @@
 use Rattle.std.proofs.Common.{◌≡◌, ℕ, Bool, true, false, List, [], ◌∷◌, map, length, get_or, sym, refl, ap, ◌∙◌, subst, ltb-true, lt-ltb}
 use Rattle.std.specs.List.{range_with_len}
 use Rattle.std.proofs.lemmas.List.{length-map}
-use Rattle.terms.specs.Rows.{side_of}
+use Rattle.terms.specs.Rows.{exchanged, side_of}
 use Rattle.terms.specs.declared.row.Row.{Row}
 use Rattle.terms.specs.declared.row.Row.TheVariants.{Check, Generator}
 use Rattle.terms.specs.declared.row.Side.{Side}
 use Rattle.sets.specs.Sets.{marks, among, repeats}
 use Rattle.sets.proofs.Lists.{in_get_or}
-use Rattle.meaning.specs.Meaning.{Meaning, Sound, qubits}
+use Rattle.meaning.specs.Meaning.{Meaning, Sound, qubits, turned}
+use Rattle.meaning.proofs.Turned.{turned_sound, turned_tells}
 use Rattle.meaning.specs.Telling.{Tells, is_row}
 use Rattle.meaning.specs.Listed.{listed_told}
 use Rattle.rows.specs.Crossing.{namers}
@@ -30,13 +31,15 @@ module _ (M : Meaning) (told : Row → List ℕ) (s : Sound M) (t : Tells M told
         once = λ k h. t.once (Check k) (lt-ltb k (length M.checks) h);
       }
 
+  -- checks that were read crosswise, over as many rows and numbers as the code has
+  pub crossed : (rows at : List (List ℕ)) (count n : ℕ) → rows ≡ map (λ k. told (Check k)) (range_with_len 0 (length M.checks)) → count ≡ length M.checks → n ≡ qubits M
+      → at ≡ map (λ q. namers rows q count) (range_with_len 0 n) → at ≡ columns (qubits M) M.checks
+  crossed rows at count n r c q a =
+      a ∙ (λ i. map (λ q. namers (r i) q (c i)) (range_with_len 0 (q i))) ∙ columns_are (qubits M) M.checks (λ k. told (Check k)) checks_told
+
+module _ (M : Meaning) (told : Row → List ℕ) (s : Sound M) (t : Tells M told) where
   generators_told : Told (qubits M) M.generators (λ k. told (Generator k))
-  generators_told =
-      record {
-        wide = λ k h. s.generators_range (get_or M.generators k []) (in_get_or M.generators k [] h);
-        names = λ k h. t.names (Generator k) (lt-ltb k (length M.generators) h);
-        once = λ k h. t.once (Generator k) (lt-ltb k (length M.generators) h);
-      }
+  generators_told = checks_told (turned M) (λ r. told (exchanged r)) (turned_sound M s) (turned_tells M told t)
 
   -- the code's rows and sides, as they were read
   module _ (cs gs : List (List ℕ)) (sides : List Side)
@@ -50,7 +53,7 @@ module _ (M : Meaning) (told : Row → List ℕ) (s : Sound M) (t : Tells M told
     long = sym (length-map sides on_side_one) ∙ ap length sides_are
 
     checks_are : (held_code cs gs sides).checks ≡ M.checks
-    checks_are = (λ i. map (marks (length (sides_are i))) (ec i)) ∙ sets_are (qubits M) M.checks (λ k. told (Check k)) checks_told
+    checks_are = (λ i. map (marks (length (sides_are i))) (ec i)) ∙ sets_are (qubits M) M.checks (λ k. told (Check k)) (checks_told M told s t)
 
     generators_are : (held_code cs gs sides).generators ≡ M.generators
     generators_are = (λ i. map (marks (length (sides_are i))) (eg i)) ∙ sets_are (qubits M) M.generators (λ k. told (Generator k)) generators_told
@@ -59,7 +62,7 @@ module _ (M : Meaning) (told : Row → List ℕ) (s : Sound M) (t : Tells M told
     code_is = λ i. record { checks = checks_are i; generators = generators_are i; sides = sides_are i }
 
     pub told_is : (r : Row) → is_row M r ≡ true → listed_told cs gs r ≡ told r
-    told_is (Check k) h = ap (λ l. get_or l k []) ec ∙ row_at (qubits M) M.checks (λ k. told (Check k)) checks_told k (ltb-true k (length M.checks) h)
+    told_is (Check k) h = ap (λ l. get_or l k []) ec ∙ row_at (qubits M) M.checks (λ k. told (Check k)) (checks_told M told s t) k (ltb-true k (length M.checks) h)
     told_is (Generator k) h = ap (λ l. get_or l k []) eg ∙ row_at (qubits M) M.generators (λ k. told (Generator k)) generators_told k (ltb-true k (length M.generators) h)
 
     pub held_sound : Sound (held_code cs gs sides)
@@ -75,16 +78,9 @@ module _ (M : Meaning) (told : Row → List ℕ) (s : Sound M) (t : Tells M told
     pub held_tells : Tells (held_code cs gs sides) (listed_told cs gs)
     held_tells = subst (λ (N : Meaning). Tells N (listed_told cs gs)) (sym code_is) told_same
 
-    -- rows that were read crosswise, over as many rows and numbers as the code has
-    module _ (at : List (List ℕ)) (count n : ℕ) (en : n ≡ qubits M) where
-      pub check_columns : count ≡ length M.checks → at ≡ map (λ q. namers cs q count) (range_with_len 0 n) → at ≡ columns (length sides) (held_code cs gs sides).checks
-      check_columns e a =
-          a ∙ (λ i. map (λ q. namers (ec i) q (e i)) (range_with_len 0 (en i)))
-          ∙ columns_are (qubits M) M.checks (λ k. told (Check k)) checks_told
-          ∙ sym (λ i. columns (long i) (checks_are i))
+    -- read crosswise, the rows are those of the code
+    pub check_columns : (at : List (List ℕ)) → at ≡ columns (qubits M) M.checks → at ≡ columns (length sides) (held_code cs gs sides).checks
+    check_columns at a = a ∙ sym (λ i. columns (long i) (checks_are i))
 
-      pub generator_columns : count ≡ length M.generators → at ≡ map (λ q. namers gs q count) (range_with_len 0 n) → at ≡ columns (length sides) (held_code cs gs sides).generators
-      generator_columns e a =
-          a ∙ (λ i. map (λ q. namers (eg i) q (e i)) (range_with_len 0 (en i)))
-          ∙ columns_are (qubits M) M.generators (λ k. told (Generator k)) generators_told
-          ∙ sym (λ i. columns (long i) (generators_are i))
+    pub generator_columns : (at : List (List ℕ)) → at ≡ columns (qubits M) M.generators → at ≡ columns (length sides) (held_code cs gs sides).generators
+    generator_columns at a = a ∙ sym (λ i. columns (long i) (generators_are i))

@@ -12,10 +12,10 @@ module _ (t : Table) where
   unfolding meaning_of
   as_many_qubits = sym (length-map (vec_items t.sides) on_side_one)
 
-  pub as_many_checks : length t.checks ≡ length (meaning_of t).checks
+  pub as_many_checks : length t.checks.rows ≡ length (meaning_of t).checks
   unfolding meaning_of
-  as_many_checks = sym (length-map t.checks (marks (qubits (meaning_of t))))
+  as_many_checks = sym (length-map t.checks.rows (marks (qubits (meaning_of t))))
 
-  pub as_many_generators : length t.generators ≡ length (meaning_of t).generators
+  pub as_many_generators : length t.generators.rows ≡ length (meaning_of t).generators
   unfolding meaning_of
-  as_many_generators = sym (length-map t.generators (marks (qubits (meaning_of t))))
+  as_many_generators = sym (length-map t.generators.rows (marks (qubits (meaning_of t))))

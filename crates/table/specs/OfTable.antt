@@ -7,8 +7,8 @@ use Rattle.table.specs.declared.Table.{Table}
 use Rattle.table.specs.Held.{held_code}
 
 unfoldable pub meaning_of : Table → Meaning
-meaning_of t = held_code t.checks t.generators (vec_items t.sides)
+meaning_of t = held_code t.checks.rows t.generators.rows (vec_items t.sides)
 
 -- the order in which the code told its rows
 unfoldable pub told_of : Table → Row → List ℕ
-told_of t = listed_told t.checks t.generators
+told_of t = listed_told t.checks.rows t.generators.rows

@@ -43,5 +43,5 @@ table_tells t = ∥∥₁_elim t.tells (tells_prop (meaning_of t) (told_of t)) (
 
 pub table_tells_none : (t : Table) (r : Row) → is_row (meaning_of t) r ≡ false → told_of t r ≡ []
 unfolding meaning_of told_of
-table_tells_none t (Check k) h = get_or_past t.checks k [] (omega (arith, ltb-false k _ h, length-map t.checks (marks (qubits (meaning_of t)))))
-table_tells_none t (Generator k) h = get_or_past t.generators k [] (omega (arith, ltb-false k _ h, length-map t.generators (marks (qubits (meaning_of t)))))
+table_tells_none t (Check k) h = get_or_past t.checks.rows k [] (omega (arith, ltb-false k _ h, length-map t.checks.rows (marks (qubits (meaning_of t)))))
+table_tells_none t (Generator k) h = get_or_past t.generators.rows k [] (omega (arith, ltb-false k _ h, length-map t.generators.rows (marks (qubits (meaning_of t)))))

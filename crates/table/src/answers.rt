@@ -20,24 +20,21 @@ impl Table {
     pub fn checks(&self) -> u16
         ensures { result ≡ length (meaning_of self.now).checks }
     {
-        self.checks.len() as u16
+        self.checks.rows.len() as u16
     }
 
     /// How many generators the code has.
     pub fn generators(&self) -> u16
         ensures { result ≡ length (meaning_of self.now).generators }
     {
-        self.generators.len() as u16
+        self.generators.rows.len() as u16
     }
 
     /// The side of a qubit; none where there is no such qubit.
     pub fn side(&self, qubit: u16) -> Option<Side>
         ensures { result ≡ side (meaning_of self.now) qubit }
     {
-        match self.sides.get(qubit as usize) {
-            Some(side) => Some(*side),
-            None => None,
-        }
+        self.sides.get(qubit as usize).copied()
     }
 
     /// The qubits of a row, in the order told; none where there is no such row.
@@ -45,8 +42,8 @@ impl Table {
         ensures { result.now ≡ told_of self.now row }
     {
         match row {
-            Row::Check(k) => self.checks.row(k as usize),
-            Row::Generator(k) => self.generators.row(k as usize),
+            Row::Check(k) => self.checks.rows.row(k as usize),
+            Row::Generator(k) => self.generators.rows.row(k as usize),
         }
     }
 
@@ -54,13 +51,13 @@ impl Table {
     pub fn checks_at(&self, qubit: u16) -> &[u16]
         ensures { result.now ≡ holders_of (meaning_of self.now).checks qubit }
     {
-        self.checks_at.row(qubit as usize)
+        self.checks.at.row(qubit as usize)
     }
 
     /// The generators that hold a qubit, rising.
     pub fn generators_at(&self, qubit: u16) -> &[u16]
         ensures { result.now ≡ holders_of (meaning_of self.now).generators qubit }
     {
-        self.generators_at.row(qubit as usize)
+        self.generators.at.row(qubit as usize)
     }
 }

@@ -6,7 +6,8 @@ ghost use Rattle.meaning.specs.Telling.{is_row};
 ghost use Rattle.table.specs.OfTable.{meaning_of, told_of};
 
 use super::Table;
-use crate::reading::{check_rows, sides};
+use crate::incidence::Incidence;
+use crate::reading::sides;
 use code::Code;
 use code::turned::Turned;
 use std::alloc::Global;
@@ -18,16 +19,11 @@ impl Table {
         ensures { AnswersIfMemory result None (λ t. (meaning_of t ≡ C.meaning code.now) × ((row : RowT) → is_row (C.meaning code.now) row ≡ true → told_of t row ≡ C.told code.now row)) }
     {
         let sides = sides(heap, code)?;
-        let checks = check_rows(heap, code)?;
-        let generators = check_rows(heap, &Turned(code))?;
-        let qubits = code.qubits();
-        let checks_at = checks.crossing(heap, code.checks(), qubits)?;
-        let generators_at = generators.crossing(heap, code.generators(), qubits)?;
+        let checks = Incidence::of(heap, code)?;
+        let generators = Incidence::of(heap, &Turned(code))?;
         Ok(Table {
             checks,
             generators,
-            checks_at,
-            generators_at,
             sides,
         })
     }

@@ -1,18 +1,22 @@
 //! Tables of product codes for a host: a seed in, the number of qubits out. The benchmark calls it.
 #![tactic(auto)]
 
+ghost use Rattle.std.specs.Prelude.{◌≡◌};
+ghost use Rattle.terms.specs.Answering.{AnswersIfMemory};
 ghost use Rattle.meaning.specs.Meaning.{qubits};
-ghost use Rattle.product.specs.OfProduct.{meaning_of};
-ghost use Rattle.table_export.specs.Seeds.{Counts, Tells};
+ghost use Rattle.meaning.specs.Product.{product_code};
+ghost use Rattle.product.specs.Seed.{seed_fault, seed_of};
+ghost use Rattle.table_export.specs.Seeds.{Tells};
 
-use code::Code;
 use product::place::Place;
 use product::product::Product;
 use std::alloc::Global;
 use table::Table;
+use terms::refusal::Refusal;
 
 /// How many qubits the product code of a seed has, by its table; 0 for a seed that is refused or for want of memory.
 /// The table is made `times` times, and once at least.
+// Kept: 0 in place of a refusal, for C has no `Result`.
 #[unsafe(no_mangle)]
 pub extern "C" fn tables_of_product(
     heap: Global,
@@ -23,21 +27,23 @@ pub extern "C" fn tables_of_product(
 ) -> u16
     ensures { Tells rows columns ones.now result }
 {
-    let Ok(code) = Product::new(rows, columns, ones) else {
-        return 0;
-    };
-    for _ in 1..times {
-        let _ = qubits_of(heap, &code);
-    }
-    qubits_of(heap, &code)
+    counted(heap, rows, columns, ones, times).unwrap_or(0)
 }
 
-/// How many qubits the table of a code has; 0 for want of memory.
-fn qubits_of(heap: Global, code: &Product) -> u16
-    ensures { Counts (qubits (meaning_of code.now)) result }
+/// The same, with the refusal.
+fn counted(
+    heap: Global,
+    rows: u16,
+    columns: u16,
+    ones: &[Place],
+    times: u16,
+) -> Result<u16, Refusal>
+    ensures { AnswersIfMemory result (seed_fault rows columns ones.now) (λ n. n ≡ qubits (product_code rows columns (seed_of rows columns ones.now))) }
 {
-    match Table::of(heap, code) {
-        Ok(table) => table.qubits(),
-        Err(_) => 0,
+    let code = Product::new(rows, columns, ones)?;
+    for _ in 1..times {
+        let _ = Table::of(heap, &code);
     }
+    let table = Table::of(heap, &code)?;
+    Ok(table.qubits())
 }

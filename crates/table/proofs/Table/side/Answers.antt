@@ -1,4 +1,6 @@
-use Rattle.std.proofs.Common.{◌≡◌, ℕ, ◌<◌, ◌≤◌, Bool, false, ltb, List, map, length, get_or, Some, None, vec_items, sym, refl, ap, ◌∙◌, arith, le-ltb, lt-ltb}
+use Rattle.std.proofs.Common.{◌≡◌, ℕ, ◌<◌, ◌≤◌, false, ltb, List, map, length, get_or, Some, None, Option, MatchOption, Bor, vec_items, sym, refl, ap, ◌∙◌, arith, le-ltb, lt-ltb}
+use Rattle.std.specs.List.{HoldsAt}
+use Rattle.std.specs.Option.{option_copied}
 use Rattle.std.proofs.lemmas.List.{length-map, get_or-map}
 use Rattle.terms.specs.Rows.{side_of}
 use Rattle.terms.specs.declared.row.Side.{Side}
@@ -14,27 +16,15 @@ side_same : (s : Side) → s ≡ side_of (on_side_one s)
 side_same Zero = refl
 side_same One = refl
 
-module _ (sides : List Side) (q : ℕ) where
-  abbrev ones : List Bool
-  ones = map on_side_one sides
+told : (sides l : List Side) (q : ℕ) (o : Option (Bor Side)) → l ≡ sides → MatchOption o (length l ≤ q) (λ s. (q < length l) × HoldsAt (λ t. s.now ≡ t) l q)
+    → option_copied o ≡ within_range (ltb q (length (map on_side_one sides))) (side_of (has (map on_side_one sides) q))
+told sides l q (Some s) is h =
+    let low : q < length sides = omega (arith, h.0, ap length is) in
+    let same : s.now ≡ get_or sides q Zero = h.1 Zero ∙ ap (λ l. get_or l q Zero) is in
+    ap (λ (t : Side). Some t) (side_same s.now ∙ ap (λ t. side_of (on_side_one t)) same ∙ ap side_of (sym (get_or-map on_side_one sides q Zero false low)))
+    ∙ in_range _ _ (lt-ltb q _ (omega (arith, low, length-map sides on_side_one)))
+told sides l q None is h = out_of_range _ _ (le-ltb q _ (omega (arith, h, ap length is, length-map sides on_side_one)))
 
-  told : (s : Side) (l : List Side) → l ≡ sides → q < length sides → s ≡ get_or l q Zero → Some s ≡ within_range (ltb q (length ones)) (side_of (has ones q))
-  told s l is h e =
-      ap (λ (x : Side). Some x) (side_same s ∙ ap (λ x. side_of (on_side_one x)) (e ∙ ap (λ l. get_or l q Zero) is) ∙ ap side_of (sym (get_or-map on_side_one sides q Zero false h)))
-      ∙ in_range (ltb q (length ones)) (side_of (has ones q)) (lt-ltb q (length ones) (omega (arith, length-map sides on_side_one)))
-
-  untold : length sides ≤ q → None ≡ within_range (ltb q (length ones)) (side_of (has ones q))
-  untold h = out_of_range (ltb q (length ones)) (side_of (has ones q)) (le-ltb q (length ones) (omega (arith, length-map sides on_side_one)))
-
-pub returns-in-Some : goal.returns-in-Some
+pub returns : goal.returns
 unfolding meaning_of
-returns-in-Some c =
-    let sides = vec_items c.args.self.now.sides in
-    let q = c.args.qubit in
-    let low : q < length sides = omega (arith, c.in-Some.ensures.lookup.3.0, ap length c.deref.ensures.value) in
-    told sides q c.in-Some.side.now c.deref.result.now c.deref.ensures.value low (c.in-Some.ensures.lookup.3.1 Zero)
-
-pub returns-in-None : goal.returns-in-None
-unfolding meaning_of
-returns-in-None c =
-    untold (vec_items c.args.self.now.sides) c.args.qubit (omega (arith, c.in-None.ensures.lookup, ap length c.deref.ensures.value))
+returns c = c.copied.ensures ∙ told (vec_items c.args.self.now.sides) c.deref.result.now c.args.qubit c.get.result c.deref.ensures.value c.get.ensures.lookup.3

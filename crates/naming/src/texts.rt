@@ -18,11 +18,7 @@ use terms::refusal::Refusal;
 pub fn refusal_line(heap: Global, refusal: Refusal) -> Result<String, AllocError>
     ensures { IfOk result (λ s. string_bytes s ≡ refusal_text refusal) }
 {
-    let wording = refusal.wording();
-    match refusal.number() {
-        Some(number) => format!(in heap; "refused {number}: {wording}\n"),
-        None => format!(in heap; "refused: {wording}\n"),
-    }
+    format!(in heap; "{refusal}\n")
 }
 
 /// The list of names of the product code of a seed.

@@ -6,24 +6,12 @@ use anyhow::anyhow;
 use naming::texts::{names, places_in, refusal_line};
 use std::alloc::Global;
 use std::env;
+use std::env::Args;
 use terms::refusal::Refusal;
 
 fn main(rt: HostRuntime) -> anyhow::Result<()> {
     let heap = rt.alloc();
-    let mut numbers = Vec::new(heap);
-    let mut all_numbers = true;
-    for argument in env::args(&rt)?.skip(1) {
-        match argument.parse::<u16>() {
-            Ok(number) => numbers.push(number)?,
-            Err(_) => all_numbers = false,
-        }
-    }
-    let listed = if all_numbers {
-        list(heap, numbers.as_slice())
-    } else {
-        Err(Refusal::NotAwaited)
-    };
-    match listed {
+    match list(heap, env::args(&rt)?) {
         Ok(text) => {
             rt.print(text)?;
             Ok(())
@@ -35,10 +23,21 @@ fn main(rt: HostRuntime) -> anyhow::Result<()> {
     }
 }
 
-fn list(heap: Global, numbers: &[u16]) -> Result<String, Refusal> {
-    let places = places_in(heap, numbers)?;
-    let [rows, columns, ..] = numbers else {
+fn list(heap: Global, arguments: Args) -> Result<String, Refusal> {
+    let numbers = numbers_in(heap, arguments)?;
+    let places = places_in(heap, numbers.as_slice())?;
+    let [rows, columns, ..] = numbers.as_slice() else {
         return Err(Refusal::WrongEnd);
     };
     names(heap, *rows, *columns, places.as_slice())
+}
+
+/// The arguments after the program's name, if each is a number.
+fn numbers_in(heap: Global, arguments: Args) -> Result<Vec<u16>, Refusal> {
+    let mut numbers = Vec::new(heap);
+    for argument in arguments.skip(1) {
+        let number = argument.parse::<u16>().map_err(|_| Refusal::NotAwaited)?;
+        numbers.push(number)?;
+    }
+    Ok(numbers)
 }

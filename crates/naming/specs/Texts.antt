@@ -4,7 +4,7 @@ use Rattle.std.specs.List.{range_with_len}
 use Rattle.terms.specs.declared.row.Row.{Row}
 use Rattle.terms.specs.declared.refusal.Refusal.{Refusal}
 use Rattle.terms.specs.declared.refusal.Refusal.TheVariants.{WrongEnd, OutsideLimits}
-use Rattle.terms.specs.Refusals.{number, wording}
+use Rattle.terms.specs.Refusals.{refusal_words}
 use Rattle.product.specs.declared.place.Place.{Place}
 use Rattle.naming.specs.declared.kind.Kind.TheVariants.{Checks, Generators}
 use Rattle.naming.specs.Lines.{qubit_lines, row_lines}
@@ -17,13 +17,9 @@ count_line r n = codes "printed " ++ (decimal (n * n + r * r) ++ (codes " qubits
 abbrev pub names_text : ℕ → ℕ → (Row → List ℕ) → List ℕ
 names_text r n told = qubit_lines (codes "b") 0 n ++ (qubit_lines (codes "a") (n * n) r ++ (row_lines told Checks r (n * r) ++ (row_lines told Generators n (r * n) ++ count_line r n)))
 
--- a refusal's number, where it has one, and its meaning
-abbrev pub number_text : Option ℕ → List ℕ
-number_text (Some k) = codes " " ++ decimal k
-number_text None = codes ""
-
+-- a refusal on a line of its own: its number, where it has one, and its meaning
 abbrev pub refusal_text : Refusal → List ℕ
-refusal_text f = codes "refused" ++ (number_text (number f) ++ (codes ": " ++ (wording f ++ codes "\n")))
+refusal_text f = refusal_words f ++ codes "\n"
 
 -- Arguments of the program: the numbers of rows and columns, and then row and column of each one.
 -- Too few of them are an early end, and a row without its column is a count outside its limits.

@@ -13,6 +13,7 @@ pub(crate) enum Kind {
 
 impl Kind {
     /// The word for one row of this kind.
+    // Kept: the word itself, and no Display: a name has it in the place where a qubit's name has a letter.
     pub(crate) fn word(self) -> &'static str
         ensures { result.now ≡ word self }
     {

@@ -1,91 +1,112 @@
 //! The lines of the list of names.
-ghost use Rattle.std.specs.Prelude.{◌≡◌, ℕ, ◌+◌, ◌*◌, ◌<◌, ◌≤◌, true, ◌++◌, string_bytes, OnOk};
+ghost use Rattle.std.specs.Prelude.{◌≡◌, ℕ, ◌*◌, ◌<◌, ◌≤◌, true, [], Some};
 ghost use Rattle.std.specs.List.{flat_map};
 ghost use Rattle.meaning.specs.Telling.{is_row};
-ghost use Rattle.naming.specs.Lines.{name, told_qubit, qubit_lines, row_of, row_line, row_lines};
+ghost use Rattle.naming.specs.Lines.{name, told_qubit, qubit_lines, row_of, row_lines};
 
 use crate::kind::Kind;
 use code::Code;
-use std::alloc::AllocError;
+use std::fmt;
 use terms::row::Row;
 
-/// Appends a name, and how its line goes on.
-fn append_name(
-    out: &mut String,
-    word: &str,
+/// A name in the grid beside the stored number.
+#[derive(Drop)]
+struct Name<'a> {
+    word: &'a str,
     x: u16,
     y: u16,
     number: u16,
-    rest: &str,
-) -> Result<(), AllocError>
-    ensures { OnOk result (string_bytes out.new ≡ string_bytes out.old ++ name word.now x y number rest.now) }
-{
-    write!(out, "{word} {x} {y} | {number}{rest}")
 }
 
-/// Appends the qubits of one side, which fill a square of the given width.
-pub(crate) fn append_qubits(
-    out: &mut String,
-    letter: &str,
-    first: u16,
-    width: u16,
-) -> Result<(), AllocError>
-    requires { (first ≤ 1024) × (width ≤ 32) }
-    ensures { OnOk result (string_bytes out.new ≡ string_bytes out.old ++ qubit_lines letter.now first width) }
-{
-    for k in 0..width * width {
-        append_name(out, letter, k / width, k % width, first + k, "\n")?;
+impl fmt::Display for Name<'_> {
+    ghost output = { λ n. Some (name n.word.now n.x n.y n.number []) };
+
+    fn fmt<W: fmt::Write>(&self, f: &mut fmt::Formatter<W>) -> fmt::Result {
+        write!(f, "{} {} {} | {}", self.word, self.x, self.y, self.number)
     }
-    Ok(())
 }
 
-/// Appends the qubits of a row in the order told.
-fn append_told<C: Code>(out: &mut String, code: &C, row: Row) -> Result<(), AllocError>
-    requires { is_row (C.meaning code.now) row ≡ true }
-    ensures { OnOk result (string_bytes out.new ≡ string_bytes out.old ++ flat_map told_qubit (C.told code.now row)) }
-{
-    let Some(len) = code.row_len(row) else {
-        return unreachable();
-    };
-    for k in 0..len {
-        let Some(q) = code.row_qubit(row, k) else {
+/// The lines of the qubits of one side, which fill a square of the given width.
+#[derive(Drop)]
+pub(crate) struct Qubits<'a> {
+    pub(crate) letter: &'a str,
+    pub(crate) first: u16,
+    pub(crate) width: u16,
+    ghost first_low: { first ≤ 1024 },
+    ghost width_low: { width ≤ 32 },
+}
+
+impl fmt::Display for Qubits<'_> {
+    ghost output = { λ q. Some (qubit_lines q.letter.now q.first q.width) };
+
+    fn fmt<W: fmt::Write>(&self, f: &mut fmt::Formatter<W>) -> fmt::Result {
+        for k in 0..self.width * self.width {
+            let name = Name {
+                word: self.letter,
+                x: k / self.width,
+                y: k % self.width,
+                number: self.first + k,
+            };
+            write!(f, "{name}\n")?;
+        }
+        Ok(())
+    }
+}
+
+/// The qubits of a row in the order told.
+#[derive(Drop)]
+struct Told<'c, C: Code> {
+    code: &'c C,
+    row: Row,
+    ghost is_row: { is_row (C.meaning code.now) row ≡ true },
+}
+
+impl<C: Code> fmt::Display for Told<'_, C> {
+    ghost output = { λ t. Some (flat_map told_qubit (C.Code.told t.code.now t.row)) };
+
+    // Kept: qubit by qubit; the code's `tell_row` would put them into a list, which takes memory for each row.
+    fn fmt<W: fmt::Write>(&self, f: &mut fmt::Formatter<W>) -> fmt::Result {
+        let Some(len) = self.code.row_len(self.row) else {
             return unreachable();
         };
-        write!(out, " {q}")?;
+        for k in 0..len {
+            let Some(q) = self.code.row_qubit(self.row, k) else {
+                return unreachable();
+            };
+            write!(f, " {q}")?;
+        }
+        Ok(())
     }
-    Ok(())
 }
 
-/// Appends a row's name and its qubits.
-fn append_row<C: Code>(
-    out: &mut String,
-    code: &C,
-    kind: Kind,
-    width: u16,
-    k: u16,
-) -> Result<(), AllocError>
-    requires { (is_row (C.meaning code.now) (row_of kind k) ≡ true) × (1 ≤ width) }
-    ensures { OnOk result (string_bytes out.new ≡ string_bytes out.old ++ row_line (C.told code.now) kind width k) }
-{
-    append_name(out, kind.word(), k / width, k % width, k, " :")?;
-    append_told(out, code, kind.row(k))?;
-    write!(out, "\n")?;
-    Ok(())
+/// The lines of the rows of one kind, which come in lines of the given length.
+#[derive(Drop)]
+pub(crate) struct Rows<'c, C: Code> {
+    pub(crate) code: &'c C,
+    pub(crate) kind: Kind,
+    pub(crate) line: u16,
+    pub(crate) count: u16,
+    ghost are_rows: { (k : ℕ) → k < count → is_row (C.meaning code.now) (row_of kind k) ≡ true },
+    ghost some_line: { 1 ≤ line },
 }
 
-/// Appends the rows of one kind, which come in lines of the given width.
-pub(crate) fn append_rows<C: Code>(
-    out: &mut String,
-    code: &C,
-    kind: Kind,
-    width: u16,
-    count: u16,
-) -> Result<(), AllocError>
-    requires { (((k : ℕ) → k < count → is_row (C.meaning code.now) (row_of kind k) ≡ true)) × (1 ≤ width) }
-    ensures { OnOk result (string_bytes out.new ≡ string_bytes out.old ++ row_lines (C.told code.now) kind width count) }
-{
-    for k in 0..count {
-        append_row(out, code, kind, width, k)?;
+impl<C: Code> fmt::Display for Rows<'_, C> {
+    ghost output = { λ r. Some (row_lines (C.Code.told r.code.now) r.kind r.line r.count) };
+
+    fn fmt<W: fmt::Write>(&self, f: &mut fmt::Formatter<W>) -> fmt::Result {
+        for k in 0..self.count {
+            let name = Name {
+                word: self.kind.word(),
+                x: k / self.line,
+                y: k % self.line,
+                number: k,
+            };
+            let told = Told {
+                code: self.code,
+                row: self.kind.row(k),
+            };
+            write!(f, "{name} :{told}\n")?;
+        }
+        Ok(())
     }
-    Ok(())
 }

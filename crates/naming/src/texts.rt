@@ -1,27 +1,24 @@
 //! The whole list of names, and the line for a refusal.
-ghost use Rattle.std.specs.Prelude.{◌≡◌, ◌*◌, ◌<◌, ◌≤◌, ◌++◌, length, IfOk, string_bytes, OnOk};
+ghost use Rattle.std.specs.Prelude.{◌≡◌, ◌*◌, ◌<◌, ◌≤◌, length, IfOk, string_bytes, Some};
 ghost use Rattle.terms.specs.Answering.{AnswersIfMemory};
 ghost use Rattle.meaning.specs.Product.{product_told};
 ghost use Rattle.product.specs.Seed.{seed_fault, seed_of};
 ghost use Rattle.naming.specs.Texts.{names_text, refusal_text, places_of, count_fault};
 
 use crate::kind::Kind;
-use crate::lines::{append_qubits, append_rows};
+use crate::lines::{Qubits, Rows};
 use code::Code;
 use product::place::Place;
 use product::product::Product;
 use std::alloc::{AllocError, Global};
+use std::fmt;
 use terms::refusal::Refusal;
 
 /// The line that is printed for a refusal: its number, where it has one, and its meaning.
 pub fn refusal_line(heap: Global, refusal: Refusal) -> Result<String, AllocError>
     ensures { IfOk result (λ s. string_bytes s ≡ refusal_text refusal) }
 {
-    let wording = refusal.wording();
-    match refusal.number() {
-        Some(number) => format!(in heap; "refused {number}: {wording}\n"),
-        None => format!(in heap; "refused: {wording}\n"),
-    }
+    format!(in heap; "{refusal}\n")
 }
 
 /// The list of names of the product code of a seed.
@@ -29,52 +26,82 @@ pub fn names(heap: Global, rows: u16, columns: u16, places: &[Place]) -> Result<
     ensures { AnswersIfMemory result (seed_fault rows columns places.now) (λ s. string_bytes s ≡ names_text rows columns (product_told rows columns (seed_of rows columns places.now))) }
 {
     let product = Product::new(rows, columns, places)?;
-    let mut out = String::new(heap);
-    append_names(&mut out, &product, rows, columns)?;
-    Ok(out)
+    let grid = Grid {
+        code: &product,
+        rows,
+        columns,
+    };
+    Ok(format!(in heap; "{grid}")?)
 }
 
-/// Appends all names of a code over a grid of the given sizes.
-fn append_names<C: Code>(
-    out: &mut String,
-    code: &C,
+/// All names of a code over a grid of the given sizes.
+#[derive(Drop)]
+struct Grid<'c, C: Code> {
+    code: &'c C,
     rows: u16,
     columns: u16,
-) -> Result<(), AllocError>
-    requires sizes { (1 ≤ rows) × (rows ≤ 32) × (1 ≤ columns) × (columns ≤ 32) }
-    requires checks { length (C.meaning code.now).checks ≡ columns * rows }
-    requires generators { length (C.meaning code.now).generators ≡ rows * columns }
-    ensures { OnOk result (string_bytes out.new ≡ string_bytes out.old ++ names_text rows columns (C.told code.now)) }
-{
-    append_qubits(out, "b", 0, columns)?;
-    append_qubits(out, "a", columns * columns, rows)?;
-    append_rows(out, code, Kind::Checks, rows, columns * rows)?;
-    append_rows(out, code, Kind::Generators, columns, rows * columns)?;
-    let qubits = columns * columns + rows * rows;
-    let checks = columns * rows;
-    let generators = rows * columns;
-    write!(
-        out,
-        "printed {qubits} qubits, {checks} checks, {generators} generators\n"
-    )?;
-    Ok(())
+    ghost some_rows: { 1 ≤ rows },
+    ghost few_rows: { rows ≤ 32 },
+    ghost some_columns: { 1 ≤ columns },
+    ghost few_columns: { columns ≤ 32 },
+    ghost checks: { length (C.meaning code.now).checks ≡ columns * rows },
+    ghost generators: { length (C.meaning code.now).generators ≡ rows * columns },
+}
+
+impl<C: Code> fmt::Display for Grid<'_, C> {
+    ghost output = { λ n. Some (names_text n.rows n.columns (C.Code.told n.code.now)) };
+
+    fn fmt<W: fmt::Write>(&self, f: &mut fmt::Formatter<W>) -> fmt::Result {
+        let pairs = self.columns * self.columns;
+        let checks = self.columns * self.rows;
+        let generators = self.rows * self.columns;
+        let qubits = pairs + self.rows * self.rows;
+        let front = Qubits {
+            letter: "b",
+            first: 0,
+            width: self.columns,
+        };
+        let back = Qubits {
+            letter: "a",
+            first: pairs,
+            width: self.rows,
+        };
+        let check_rows = Rows {
+            code: self.code,
+            kind: Kind::Checks,
+            line: self.rows,
+            count: checks,
+        };
+        let generator_rows = Rows {
+            code: self.code,
+            kind: Kind::Generators,
+            line: self.columns,
+            count: generators,
+        };
+        write!(f, "{front}{back}{check_rows}{generator_rows}")?;
+        write!(
+            f,
+            "printed {qubits} qubits, {checks} checks, {generators} generators\n"
+        )
+    }
 }
 
 /// The places among the arguments of the program: each two numbers after the first two, which are the sizes of the seed.
 pub fn places_in(heap: Global, numbers: &[u16]) -> Result<Vec<Place>, Refusal>
     ensures { AnswersIfMemory result (count_fault numbers.now) (λ v. v.items ≡ places_of numbers.now) }
 {
-    if numbers.len() < 2 {
+    let [_, _, rest @ ..] = numbers else {
         return Err(Refusal::WrongEnd);
-    }
-    if numbers.len() % 2 == 1 {
+    };
+    let (pairs, []) = rest.as_chunks::<2>() else {
         return Err(Refusal::OutsideLimits);
-    }
+    };
     let mut places = Vec::new(heap);
-    for k in 0..(numbers.len() - 2) / 2 {
-        let row = numbers[2 * k + 2];
-        let column = numbers[2 * k + 3];
-        places.push(Place { row, column })?;
+    for [row, column] in pairs {
+        places.push(Place {
+            row: *row,
+            column: *column,
+        })?;
     }
     Ok(places)
 }

@@ -1,15 +1,12 @@
 -- Binary digits: how many ones a word has, its lowest one, the word without it, and the word with one more.
-use Rattle.std.proofs.Common.{◌≡◌, ℕ, zero, suc, ◌+◌, ◌-◌, ◌*◌, ◌/◌, ◌%◌, ◌^◌, ◌<◌, ◌≤◌, min, max, Bool, true, false, ◌||◌, eqb, ◌⊎◌, List, [], ◌∷◌, length, get_or, drop, sym, refl, ap, ◌∙◌, subst, inl, inr, pow-suc, add-one, arith, shr_lt, eq-eqb, ne_eqb, eqb-true}
+use Rattle.std.proofs.Common.{◌≡◌, ℕ, zero, suc, ◌+◌, ◌-◌, ◌*◌, ◌/◌, ◌%◌, ◌^◌, ◌<◌, ◌≤◌, min, max, Bool, true, false, ◌||◌, eqb, ◌⊎◌, List, [], ◌∷◌, length, sym, refl, ap, ◌∙◌, subst, inl, inr, pow-suc, add-one, arith, shr_lt, eq-eqb, ne_eqb, eqb-true}
 use lib.Bits.{bit_and, bit_or, and_step, or_step, and_self, or_zero_r}
 use lib.Count.{ones_step, count_trailing_zeros, under}
 use lib.Count.{ones as onesOf, ones_in}
 use borrow.Author.Tests.{eqb-false}
-use Rattle.std.proofs.lemmas.List.{length-drop, get_or-drop, drop-drop}
 use Rattle.sets.specs.Sets.{has, size, elements_from, elements}
 use Rattle.sets.proofs.Bits.{either, same}
-use Rattle.sets.proofs.Lists.{in_get_or}
-use Rattle.sets.proofs.Numbers.{length_elements, element_has}
-use Rattle.sets.proofs.Sets.{has_below}
+use Rattle.sets.proofs.Numbers.{length_elements}
 use Rattle.sets.proofs.Sizes.{size_length}
 use Rattle.product.specs.Words.{digits, ones}
 
@@ -113,30 +110,6 @@ pub zero_ones : (w : ℕ) → w ≡ 0 → elements (ones w) ≡ []
 unfolding ones digits
 zero_ones w e = ap (λ (x : ℕ). elements (ones x)) e
 
--- Clearing one after the other: i ones of the list L were cleared, and the word w is left.
-pub none_left : (L : List ℕ) (i w : ℕ) → w ≡ 0 → elements (ones w) ≡ drop i L → length L ≤ i
-none_left L i w z e =
-    let none : length (elements (ones w)) ≡ 0 = count_ones w (omega arith) ∙ ones_of_zero w (omega arith) in
-    omega (arith, none, ap length e, length-drop i L)
-
-pub record Left (L : List ℕ) (i w : ℕ) : Type 0 where
-  pub more : i < length L
-  pub next : get_or L i 0 ≡ count_trailing_zeros 32 w
-  pub rest : elements (ones (bit_and w (w - 1))) ≡ drop (i + 1) L
-
-pub some_left : (L : List ℕ) (i w : ℕ) → 0 < w → w < 2 ^ 32 → elements (ones w) ≡ drop i L → Left L i w
-unfolding ones
-some_left L i w some low e =
-    let r = lowest_one 32 0 w some low in
-    let is : drop i L ≡ (0 + count_trailing_zeros 32 w) ∷ r.rest = sym e ∙ r.is in
-    let i₀ : i ≡ i + 0 = omega arith in
-    let t₀ : 0 + count_trailing_zeros 32 w ≡ count_trailing_zeros 32 w = omega arith in
-    record {
-      more = omega (arith, ap length is, length-drop i L);
-      next = ap (λ k. get_or L k 0) i₀ ∙ sym (get_or-drop i L 0 0) ∙ ap (λ l. get_or l 0 0) is ∙ t₀;
-      rest = r.cleared ∙ ap (drop 1) (sym is) ∙ drop-drop 1 i L;
-    }
-
 -- one more one
 or_two_power : (w j : ℕ) → (bit_or w (2 ^ suc j) / 2 ≡ bit_or (w / 2) (2 ^ j)) × (bit_or w (2 ^ suc j) % 2 ≡ w % 2)
 or_two_power w j =
@@ -178,19 +151,6 @@ length_digits : (f w : ℕ) → length (digits f w) ≡ f
 unfolding digits
 length_digits zero w = refl
 length_digits (suc f) w = ap suc (length_digits f (w / 2))
-
--- the place of a one is below 32
-pub one_low : (w k : ℕ) → k < length (elements (ones w)) → get_or (elements (ones w)) k 0 < 32
-unfolding ones
-one_low w k h =
-    let m = element_has (digits 32 w) (get_or (elements (ones w)) k 0) (in_get_or (elements (ones w)) k 0 h) in
-    omega (arith, has_below (digits 32 w) (get_or (elements (ones w)) k 0) m, length_digits 32 w)
-
-pub first_low : (w : ℕ) → 0 < w → w < 2 ^ 32 → count_trailing_zeros 32 w < 32
-first_low w some low =
-    let e = first_one w some low in
-    let long : 0 < length (elements (ones w)) = omega (arith, ap length e) in
-    omega (arith, one_low w 0 long, ap (λ l. get_or l 0 0) e)
 
 pub few_ones : (w : ℕ) → length (elements (ones w)) ≤ 32
 unfolding ones

@@ -1,7 +1,6 @@
 -- The words of a product are the rows and columns of its seed.
 use Rattle.std.proofs.Common.{◌≡◌, ℕ, ◌+◌, ◌*◌, ◌<◌, ◌≤◌, false, ◌⊎◌, List, [], ◌++◌, map, get_or, sym, ap, ◌∙◌, inl, inr, mul-one, arith}
 use Rattle.std.specs.List.{range_with_len}
-use Rattle.std.proofs.lemmas.Nat.{mul-le}
 use Rattle.std.proofs.lemmas.List.FromFn.{length-map-range_with_len, get_or-map-range_with_len}
 use Rattle.std.proofs.lemmas.List.{get_or_past}
 use Rattle.std.proofs.lemmas.Bool.{cases_lt}
@@ -64,7 +63,3 @@ module _ (p : Product) where
       let front = part_is f _ _ _ (λ b'. b' * p.columns + b) fw ff fs (λ x. omega arith) (row_elements a) in
       let back = part_is g _ _ _ (λ a'. p.columns * p.columns + (a * p.rows + a')) gw gf gs (λ x. omega (arith, mul-one x)) (column_elements b) in
       λ i. front i ++ back i
-
--- products of sizes
-pub pairs_low : (x y : ℕ) → x ≤ 32 → y ≤ 32 → x * y ≤ 1024
-pairs_low x y h k = mul-le x y 32 32 h k

@@ -1,4 +1,3 @@
 pub mod Digits
 pub mod Seeds
 pub mod Entries
-pub mod Walked

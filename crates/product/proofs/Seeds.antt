@@ -1,36 +1,18 @@
 -- Seeds as they are given: one more place of the list, and what the matrix has.
-use Rattle.std.proofs.Common.{◌≡◌, ℕ, zero, suc, ◌+◌, ◌<◌, ◌≤◌, Bool, true, false, cond, ◌&&◌, ◌||◌, eqb, ltb, leb, ◌⊎◌, List, [], ◌∷◌, ◌++◌, length, get_or, take, drop, set, replicate, Some, None, Option, sym, refl, ap, ◌∙◌, inl, inr, arith, get_or-set_other, get_or-set_same, ltb-false, eqb-true, leb-false}
+use Rattle.std.proofs.Common.{◌≡◌, ℕ, zero, suc, ◌+◌, ◌<◌, ◌≤◌, Bool, true, false, cond, ◌&&◌, ◌||◌, eqb, ltb, leb, ◌⊎◌, List, [], ◌∷◌, ◌++◌, length, get_or, take, set, replicate, Some, None, sym, refl, ap, ◌∙◌, inl, inr, arith, get_or-set_other, get_or-set_same, ltb-false, eqb-true, leb-false}
 use mathlib.Core.Bool.{false≢true}
 use borrow.Author.Tests.{eqb-false, lt-leb}
-use Rattle.std.proofs.lemmas.List.{at_drop_more, at_drop_all, take_more}
+use Rattle.std.proofs.lemmas.List.{take_more}
 use Rattle.sets.specs.Sets.{has}
 use Rattle.sets.proofs.Bits.{either, and_both, or_cases, or_none, or_neither}
 use Rattle.product.specs.declared.place.Place.{Place}
 use Rattle.terms.specs.declared.refusal.Refusal.TheVariants.{OutsideLimits, NotRising}
-use Rattle.product.specs.Seed.{size_outside, outside, some_outside, after, rising_from, seed_fault, marked}
+use Rattle.product.specs.Seed.{size_outside, outside, some_outside, rising_from, seed_fault, marked}
 use Rattle.product.specs.Words.{ones, one_at}
 use Rattle.product.proofs.Digits.{ones_none}
 
 abbrev pub origin : Place
 origin = record { row = 0; column = 0 }
-
-pub outside_more : (r n : ℕ) (l : List Place) (i : ℕ) → i < length l → some_outside r n (drop i l) ≡ (outside r n (get_or l i origin) || some_outside r n (drop (i + 1) l))
-outside_more r n l i h = at_drop_more (some_outside r n) l i origin h
-
-pub outside_all : (r n : ℕ) (l : List Place) (i : ℕ) → length l ≤ i → some_outside r n (drop i l) ≡ false
-outside_all r n l i h = at_drop_all (some_outside r n) l i h
-
-pub rising_more : (last : Option Place) (l : List Place) (i : ℕ) → i < length l → rising_from last (drop i l) ≡ (after last (get_or l i origin) && rising_from (Some (get_or l i origin)) (drop (i + 1) l))
-rising_more last l i h = at_drop_more (rising_from last) l i origin h
-
-pub rising_all : (last : Option Place) (l : List Place) (i : ℕ) → length l ≤ i → rising_from last (drop i l) ≡ true
-rising_all last l i h = at_drop_all (rising_from last) l i h
-
--- each place of a list without outside places lies inside
-pub inside_at : (r n : ℕ) (l : List Place) (i : ℕ) → some_outside r n l ≡ false → i < length l → ((get_or l i origin).row < r) × ((get_or l i origin).column < n)
-inside_at r n [] i e h = absurd (omega arith)
-inside_at r n (p ∷ l) zero e h = let o = or_none (outside r n p) (some_outside r n l) e in let q = or_none (leb r p.row) (leb n p.column) o.0 in (leb-false r p.row q.0, leb-false n p.column q.1)
-inside_at r n (p ∷ l) (suc i) e h = let o = or_none (outside r n p) (some_outside r n l) e in inside_at r n l i o.1 (omega arith)
 
 -- one more place is marked
 marked_push : (a b : ℕ) (l : List Place) (p : Place) → marked a b (l ++ p ∷ []) ≡ ((eqb a p.row && eqb b p.column) || marked a b l)

@@ -1,6 +1,6 @@
 -- A seed as it is given: its sizes and the places of its ones. When it is refused, and the matrix that it is.
 use Rattle.std.specs.Prelude.{ℕ, Bool, true, false, cond, ◌&&◌, ◌||◌, List, [], ◌∷◌, map, Some, None, Option, ◌==◌, nat_le, nat_lt}
-use Rattle.std.specs.List.{range_with_len}
+use Rattle.std.specs.List.{range_with_len, list_any}
 use Rattle.terms.specs.declared.refusal.Refusal.{Refusal}
 use Rattle.terms.specs.declared.refusal.Refusal.TheVariants.{OutsideLimits, NotRising}
 use Rattle.product.specs.declared.place.Place.{Place}
@@ -14,8 +14,7 @@ abbrev pub outside : ℕ → ℕ → Place → Bool
 outside r n p = nat_le r p.row || nat_le n p.column
 
 abbrev pub some_outside : ℕ → ℕ → List Place → Bool
-some_outside r n [] = false
-some_outside r n (p ∷ l) = outside r n p || some_outside r n l
+some_outside r n l = list_any (outside r n) l
 
 -- whether p comes before q, by row and then by column
 abbrev pub before : Place → Place → Bool

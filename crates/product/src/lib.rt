@@ -4,4 +4,3 @@
 mod part;
 pub mod place;
 pub mod product;
-mod words;

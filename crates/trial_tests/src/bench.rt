@@ -3,17 +3,20 @@ ghost use Rattle.std.specs.Prelude.{◌≡◌, length};
 ghost use Rattle.trial_tests.specs.Slips.{outs, held, trial_numbers, Own};
 
 use crate::calling::{churn_at, close_all, close_at, keep, open_at, peel, prune};
-use crate::reading::{Numbers, Step};
+use crate::codes::Made;
+use crate::reading::Step;
 use crate::telling::{Answer, Bytes, Counted, State, Told};
+use played::numbers::Numbers;
 use std::alloc::Global;
-use table::Table;
 use trial::slip::Slip;
 use trial::tally::Tally;
 use trial::trial::Trial;
 
 /// Each in the order of its making. Slip k was handed out with trial k; a slip that was spent leaves its place empty.
+// Kept: trials and slips are two lists. A line may name the trial of one place and the slip of another, and a close takes the slip out of its
+// place while the trial is lent.
 pub(crate) struct Bench<'t> {
-    tables: &'t [Table],
+    codes: &'t [Made],
     tallies: Vec<Tally>,
     trials: Vec<Trial<'t>>,
     slips: Vec<Option<Slip>>,
@@ -23,9 +26,9 @@ pub(crate) struct Bench<'t> {
 }
 
 impl<'t> Bench<'t> {
-    pub(crate) fn new(heap: Global, tables: &'t [Table]) -> Bench<'t> {
+    pub(crate) fn new(heap: Global, codes: &'t [Made]) -> Bench<'t> {
         Bench {
-            tables,
+            codes,
             tallies: Vec::new(heap),
             trials: Vec::new(heap),
             slips: Vec::new(heap),
@@ -79,7 +82,7 @@ impl<'t> Bench<'t> {
         let place = numbers.place();
         let lost = numbers.list(heap)?;
         let odd = numbers.list(heap)?;
-        let Some(table) = self.tables.get(code) else {
+        let Some(Made { table, .. }) = self.codes.get(code) else {
             return Ok(Told::unknown());
         };
         if place >= self.tallies.len() {
@@ -103,10 +106,7 @@ impl<'t> Bench<'t> {
         let len = numbers.place();
         let fill = numbers.byte();
         let mut buffer = vec![in heap; fill; len]?;
-        let answer = match trial.copy_out(buffer.as_mut_slice()) {
-            Ok(()) => Answer::Done,
-            Err(refusal) => Answer::Refused(refusal),
-        };
+        let answer = Answer::from(trial.copy_out(buffer.as_mut_slice()));
         let mut told = Told::of_trial(answer, place);
         told.bytes = Some(buffer);
         Ok(told)
@@ -138,7 +138,7 @@ impl<'t> Bench<'t> {
     fn churn(&mut self, heap: Global, numbers: &mut Numbers) -> Told {
         let code = numbers.place();
         let place = numbers.place();
-        let Some(table) = self.tables.get(code) else {
+        let Some(Made { table, .. }) = self.codes.get(code) else {
             return Told::unknown();
         };
         if place >= self.tallies.len() {
@@ -157,7 +157,7 @@ impl<'t> Bench<'t> {
     /// Ends the sequence. Slips that it left out are closed with their own trials: there are as many as the tallies count out, so one of these takes each.
     pub(crate) fn end(self) {
         let Bench {
-            tables: _,
+            codes: _,
             mut tallies,
             trials,
             slips,

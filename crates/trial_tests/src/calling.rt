@@ -1,9 +1,9 @@
 //! Calls on one trial.
-ghost use Rattle.std.specs.Prelude.{◌≡◌, ◌⊎◌, ℕ, ◌+◌, ◌<◌, ◌≤◌, List, length, None, slice_index_or, vec_len, vec_capacity};
+ghost use Rattle.std.specs.Prelude.{◌≡◌, ◌⊎◌, ℕ, ◌+◌, ◌<◌, ◌≤◌, List, length, None, nat_lt, slice_index_or, vec_len, vec_capacity};
 ghost use Rattle.trial_tests.specs.Slips.{out, outs, held_by, held, trial_numbers, Own, OpensOne};
 
-use crate::reading::Numbers;
 use crate::telling::{Answer, Told};
+use played::numbers::Numbers;
 use std::alloc::{AllocError, Global};
 use table::Table;
 use terms::refusal::Refusal;
@@ -27,10 +27,7 @@ pub(crate) fn peel(
     let Some(trial) = trials.get_mut(place) else {
         return Told::unknown();
     };
-    let answer = match trial.peel(slip, numbers.short()) {
-        Ok(_) => Answer::Done,
-        Err(refusal) => Answer::Refused(refusal),
-    };
+    let answer = Answer::from(trial.peel(slip, numbers.short()));
     Told::of_trial(answer, place)
 }
 
@@ -51,10 +48,7 @@ pub(crate) fn prune(
     };
     let qubit = numbers.short();
     let generators = numbers.list(heap)?;
-    let answer = match trial.prune(slip, qubit, generators.as_slice()) {
-        Ok(()) => Answer::Done,
-        Err(refusal) => Answer::Refused(refusal),
-    };
+    let answer = Answer::from(trial.prune(slip, qubit, generators.as_slice()));
     Ok(Told::of_trial(answer, place))
 }
 
@@ -102,14 +96,8 @@ pub(crate) fn keep<'t>(
 {
     let Opened { trial, slip } = opened;
     let number = slip.number();
-    match slips.push(Some(slip)) {
-        Ok(()) => {}
-        Err(_) => unreachable(),
-    }
-    match trials.push(trial) {
-        Ok(()) => {}
-        Err(_) => unreachable(),
-    }
+    slips.push_reserved(Some(slip));
+    trials.push_reserved(trial);
     Answer::Number(number)
 }
 
@@ -191,13 +179,18 @@ fn first_out(tallies: &[Tally]) -> usize
     ensures place { result < length tallies.now }
     ensures count { (d : Tally) → 0 < out (slice_index_or tallies.now result d) }
 {
-    for k in 0..tallies.len() {
-        let counts = tallies[k].counts();
-        if counts.solved + counts.nothing + counts.unfinished < counts.opened {
-            return k;
-        }
+    match tallies.iter().position(counts_out) {
+        Some(place) => place,
+        None => unreachable(),
     }
-    unreachable()
+}
+
+/// Whether the tally counts a slip out.
+fn counts_out(tally: &Tally) -> bool
+    ensures { result ≡ nat_lt 0 (out tally.now) }
+{
+    let counts = tally.counts();
+    counts.solved + counts.nothing + counts.unfinished < counts.opened
 }
 
 /// Opens with nothing lost and nothing odd, and closes, so many times, on one of the tallies.

@@ -1,89 +1,95 @@
 //! The codes of a sequence and their tables.
-use crate::reading::{Numbers, Step};
-use code::Code;
+use crate::reading::Step;
 use code::turned::Turned;
 use listed::Listed;
-use product::place::Place;
+use played::codes::{listed_in, product_in};
+use played::numbers::Numbers;
+use played::refused::Refused;
 use product::product::Product;
-use rows::Rows;
 use std::alloc::{AllocError, Global};
 use table::Table;
 use terms::refusal::Refusal;
-use terms::row::{Row, Side};
+use terms::row::Row;
 
-/// A code that was made; of a turned one only the table is kept, since none is turned twice.
+/// What a turned code is made of. None is made of a turned one, so that is not kept.
 #[derive(Drop)]
-enum Made {
+enum Source {
     Product(Product),
     Listed(Listed),
     Turned,
 }
 
-/// The codes, numbered as they were made, and beside each its table.
+/// A code that was made, and its table.
+#[derive(Drop)]
+pub(crate) struct Made {
+    source: Source,
+    pub(crate) table: Table,
+}
+
+/// The codes, numbered as they were made.
 #[derive(Drop)]
 pub(crate) struct Codes {
     made: Vec<Made>,
-    tables: Vec<Table>,
 }
 
 impl Codes {
     pub(crate) fn new(heap: Global) -> Codes {
-        let made = Vec::new(heap);
-        let tables = Vec::new(heap);
-        Codes { made, tables }
+        Codes {
+            made: Vec::new(heap),
+        }
     }
 
-    pub(crate) fn tables(&self) -> &[Table] {
-        self.tables.as_slice()
+    pub(crate) fn made(&self) -> &[Made] {
+        self.made.as_slice()
     }
 
     /// The answer to a step about codes; none to another step.
     pub(crate) fn play(&mut self, heap: Global, step: &Step) -> Result<Option<String>, AllocError> {
-        let mut numbers = step.numbers();
         let made = match step.word() {
-            "product" => self.make_product(heap, &mut numbers),
-            "listed" => self.make_listed(heap, &mut numbers),
-            "turned" => self.make_turned(heap, &mut numbers),
+            "product" => self.make_product(heap, step.numbers()),
+            "listed" => self.make_listed(heap, step.numbers()),
+            "turned" => self.make_turned(heap, step.numbers()),
             _ => return self.ask(heap, step),
         };
         let answer = match made {
             Ok(sizes) => sizes,
-            Err(refusal) => match refusal.number() {
-                Some(number) => format!(in heap; "refused {number}")?,
-                None => return Err(AllocError),
-            },
+            Err(Refusal::NoMemory) => return Err(AllocError),
+            Err(refusal) => format!(in heap; "{}", Refused(refusal))?,
         };
         Ok(Some(answer))
     }
 
-    fn make_product(&mut self, heap: Global, numbers: &mut Numbers) -> Result<String, Refusal> {
-        let code = product_of(heap, numbers)?;
+    fn make_product(&mut self, heap: Global, numbers: Numbers) -> Result<String, Refusal> {
+        let code = product_in(heap, numbers)?;
         let table = Table::of(heap, &code)?;
-        self.keep(heap, Made::Product(code), table)
+        self.keep(heap, Source::Product(code), table)
     }
 
-    fn make_listed(&mut self, heap: Global, numbers: &mut Numbers) -> Result<String, Refusal> {
-        let code = listed_of(heap, numbers)?;
+    fn make_listed(&mut self, heap: Global, numbers: Numbers) -> Result<String, Refusal> {
+        let code = listed_in(heap, numbers)?;
         let table = Table::of(heap, &code)?;
-        self.keep(heap, Made::Listed(code), table)
+        self.keep(heap, Source::Listed(code), table)
     }
 
-    fn make_turned(&mut self, heap: Global, numbers: &mut Numbers) -> Result<String, Refusal> {
-        let table = match self.made.get(numbers.place()) {
-            Some(Made::Product(code)) => Table::of(heap, &Turned(code))?,
-            Some(Made::Listed(code)) => Table::of(heap, &Turned(code))?,
-            Some(Made::Turned) | None => return Ok(String::from_str(heap, "no such code")?),
+    fn make_turned(&mut self, heap: Global, numbers: Numbers) -> Result<String, Refusal> {
+        let mut numbers = numbers;
+        let Some(Made { source, .. }) = self.made.get(numbers.place()) else {
+            return Ok(String::from_str(heap, "no such code")?);
         };
-        self.keep(heap, Made::Turned, table)
+        let table = match source {
+            Source::Product(code) => Table::of(heap, &Turned(code))?,
+            Source::Listed(code) => Table::of(heap, &Turned(code))?,
+            Source::Turned => return Ok(String::from_str(heap, "no such code")?),
+        };
+        self.keep(heap, Source::Turned, table)
     }
 
     /// Keeps a code and tells its sizes.
-    fn keep(&mut self, heap: Global, made: Made, table: Table) -> Result<String, Refusal> {
+    fn keep(&mut self, heap: Global, source: Source, table: Table) -> Result<String, Refusal> {
         let qubits = table.qubits();
         let checks = table.checks();
         let generators = table.generators();
-        self.made.push(made)?;
-        self.tables.push(table)?;
+        self.made.push(Made { source, table })?;
         Ok(format!(in heap; "ok {qubits} {checks} {generators}")?)
     }
 
@@ -92,10 +98,8 @@ impl Codes {
             return Ok(None);
         }
         let mut numbers = step.numbers();
-        let answer = match self.tables.get(numbers.place()) {
-            Some(table) => ask_table(table, step.word(), &mut numbers),
-            None => None,
-        };
+        let made = self.made.get(numbers.place());
+        let answer = made.and_then(|made| ask_table(&made.table, step.word(), numbers));
         Ok(Some(match answer {
             Some(number) => format!(in heap; "{number}")?,
             None => String::from_str(heap, "none")?,
@@ -104,15 +108,12 @@ impl Codes {
 }
 
 /// Questions go to the table, which has to answer as the code does.
-fn ask_table(table: &Table, word: &str, numbers: &mut Numbers) -> Option<u16> {
+fn ask_table(table: &Table, word: &str, numbers: Numbers) -> Option<u16> {
+    let mut numbers = numbers;
     let first = numbers.short();
     let second = numbers.place();
     match word {
-        "side" => match table.side(first) {
-            Some(Side::Zero) => Some(0),
-            Some(Side::One) => Some(1),
-            None => None,
-        },
+        "side" => Some(u16::from(u8::from(table.side(first)?))),
         "check_size" if first < table.checks() => size_of_row(table, Row::Check(first)),
         "generator_size" if first < table.generators() => size_of_row(table, Row::Generator(first)),
         "check_qubit" => table.row(Row::Check(first)).get(second).copied(),
@@ -123,35 +124,4 @@ fn ask_table(table: &Table, word: &str, numbers: &mut Numbers) -> Option<u16> {
 
 fn size_of_row(table: &Table, row: Row) -> Option<u16> {
     u16::try_from(table.row(row).len()).ok()
-}
-
-fn product_of(heap: Global, numbers: &mut Numbers) -> Result<Product, Refusal> {
-    let rows = numbers.short();
-    let columns = numbers.short();
-    let mut places = Vec::new(heap);
-    for _ in 0..numbers.left() / 2 {
-        let row = numbers.short();
-        let column = numbers.short();
-        places.push(Place { row, column })?;
-    }
-    Product::new(rows, columns, places.as_slice())
-}
-
-fn listed_of(heap: Global, numbers: &mut Numbers) -> Result<Listed, Refusal> {
-    let mut sides = Vec::new(heap);
-    for _ in 0..numbers.next() {
-        sides.push(numbers.byte())?;
-    }
-    let checks = rows_of(heap, numbers)?;
-    let generators = rows_of(heap, numbers)?;
-    Listed::new(sides, checks, generators)
-}
-
-fn rows_of(heap: Global, numbers: &mut Numbers) -> Result<Rows, Refusal> {
-    let mut rows = Rows::new(heap);
-    for _ in 0..numbers.next() {
-        let row = numbers.list(heap)?;
-        rows.push(row.as_slice())?;
-    }
-    Ok(rows)
 }

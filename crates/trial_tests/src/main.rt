@@ -28,7 +28,7 @@ fn main(rt: HostRuntime) -> anyhow::Result<()> {
     let sequences = read_sequences(&rt)?;
     for sequence in sequences.iter() {
         let codes = play_codes(&rt, sequence)?;
-        let mut bench = Bench::new(rt.alloc(), codes.tables());
+        let mut bench = Bench::new(rt.alloc(), codes.made());
         let played = play_trials(&rt, sequence, &mut bench);
         bench.end();
         played?;

@@ -1,4 +1,5 @@
 //! Reading the lines.
+use played::numbers::Numbers;
 use std::alloc::{AllocError, Global};
 use std::io::{BufRead, BufReader};
 
@@ -17,6 +18,8 @@ pub(crate) struct Step {
 }
 
 impl Step {
+    // Kept: as in `code_tests` but for what counts as a number; a library's function would have to promise what it reads, and no clause names
+    // the words of a line.
     fn read(heap: Global, line: &str) -> Result<Step, AllocError> {
         let mut word = String::new(heap);
         let mut numbers = Vec::new(heap);
@@ -29,6 +32,7 @@ impl Step {
         Ok(Step { word, numbers })
     }
 
+    // Kept: steps are told apart by their words, each in the one `match` that makes its call; an enum of calls would list each word once more.
     pub(crate) fn word(&self) -> &str {
         self.word.as_str()
     }
@@ -45,10 +49,7 @@ impl Step {
     }
 
     pub(crate) fn numbers(&self) -> Numbers<'_> {
-        Numbers {
-            numbers: self.numbers.as_slice(),
-            next: 0,
-        }
+        Numbers::new(self.numbers.as_slice())
     }
 }
 
@@ -69,50 +70,4 @@ pub(crate) fn read_sequences(rt: &HostRuntime) -> anyhow::Result<Vec<Sequence>> 
         }
     }
     Ok(sequences)
-}
-
-/// Numbers read one after the other; past the end each is 0.
-#[derive(Drop)]
-pub(crate) struct Numbers<'a> {
-    numbers: &'a [u32],
-    next: usize,
-}
-
-impl Numbers<'_> {
-    pub(crate) fn next(&mut self) -> u32 {
-        if self.next >= self.numbers.len() {
-            return 0;
-        }
-        let number = self.numbers[self.next];
-        self.next += 1;
-        number
-    }
-
-    /// The next number as a place in a list.
-    pub(crate) fn place(&mut self) -> usize {
-        self.next() as usize
-    }
-
-    /// The next number as one of a qubit, check or generator; what is larger than any becomes the largest.
-    pub(crate) fn short(&mut self) -> u16 {
-        u16::try_from(self.next()).unwrap_or(u16::MAX)
-    }
-
-    pub(crate) fn byte(&mut self) -> u8 {
-        u8::try_from(self.next()).unwrap_or(u8::MAX)
-    }
-
-    /// A count and so many numbers.
-    pub(crate) fn list(&mut self, heap: Global) -> Result<Vec<u16>, AllocError> {
-        let mut list = Vec::new(heap);
-        for _ in 0..self.next() {
-            list.push(self.short())?;
-        }
-        Ok(list)
-    }
-
-    /// How many numbers are left.
-    pub(crate) fn left(&self) -> usize {
-        self.numbers.len().saturating_sub(self.next)
-    }
 }

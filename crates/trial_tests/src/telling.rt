@@ -1,4 +1,5 @@
 //! What is told of a call, as text.
+use played::refused::Refused;
 use rules::answers::{Outcome, Status, Verdict};
 use std::fmt;
 use terms::refusal::Refusal;
@@ -16,6 +17,16 @@ pub(crate) enum Answer {
     Unknown,
 }
 
+/// What came of a call that answers nothing to be told.
+impl<T: Drop> From<Result<T, Refusal>> for Answer {
+    fn from(result: Result<T, Refusal>) -> Answer {
+        match result {
+            Ok(_) => Answer::Done,
+            Err(refusal) => Answer::Refused(refusal),
+        }
+    }
+}
+
 impl fmt::Display for Answer {
     fn fmt<W: fmt::Write>(&self, f: &mut fmt::Formatter<W>) -> fmt::Result {
         match self {
@@ -28,15 +39,13 @@ impl fmt::Display for Answer {
                 let chosen = verdict.chosen;
                 write!(f, "ok {word} {peeled} {pruned} {chosen}")
             }
-            Answer::Refused(refusal) => match refusal.number() {
-                Some(number) => write!(f, "refused {number}"),
-                None => f.write_str("no memory"),
-            },
+            Answer::Refused(refusal) => write!(f, "{}", Refused(*refusal)),
             Answer::Unknown => f.write_str("unknown"),
         }
     }
 }
 
+// Kept: the words of these lines alone; a Display needs a struct around the outcome, and says no more.
 fn outcome_word(outcome: Outcome) -> &'static str {
     match outcome {
         Outcome::Solved => "solved",
@@ -60,34 +69,26 @@ impl fmt::Display for State<'_> {
             f,
             " | counts {peeled} {pruned} {chosen} | void {void} | erased"
         )?;
-        write_status(f, view.status, Status::Erased)?;
+        write_places(f, view.status, &Status::Erased)?;
         f.write_str(" | shelved")?;
-        write_status(f, view.status, Status::Shelved)?;
+        write_places(f, view.status, &Status::Shelved)?;
         f.write_str(" | flipped")?;
-        write_marked(f, view.flipped)?;
+        write_places(f, view.flipped, &true)?;
         f.write_str(" | odd")?;
-        write_marked(f, view.odd)?;
+        write_places(f, view.odd, &true)?;
         f.write_str(" | closed")?;
-        write_marked(f, view.closed)
+        write_places(f, view.closed, &true)
     }
 }
 
-fn write_status<W: fmt::Write>(
+/// Writes the places of a list that hold what is wanted.
+fn write_places<W: fmt::Write, T: PartialEq>(
     f: &mut fmt::Formatter<W>,
-    all: &[Status],
-    wanted: Status,
+    all: &[T],
+    wanted: &T,
 ) -> fmt::Result {
-    for (qubit, status) in all.iter().enumerate() {
-        if *status == wanted {
-            write!(f, " {qubit}")?;
-        }
-    }
-    Ok(())
-}
-
-fn write_marked<W: fmt::Write>(f: &mut fmt::Formatter<W>, marks: &[bool]) -> fmt::Result {
-    for (place, mark) in marks.iter().enumerate() {
-        if *mark {
+    for (place, item) in all.iter().enumerate() {
+        if item == wanted {
             write!(f, " {place}")?;
         }
     }

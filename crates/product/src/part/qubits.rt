@@ -1,10 +1,10 @@
 //! Asking a part of a row.
 ghost use Rattle.std.specs.Prelude.{◌≡◌, ◌+◌, ◌≤◌, ◌++◌, length, is_ok, if◌then◌else◌, vec_len, vec_capacity, OnOk, nat_lt, slice_index};
+ghost use Rattle.std.specs.Iterator.{YieldsFirst, item_count};
 ghost use Rattle.meaning.specs.Telling.{within_range};
 ghost use Rattle.product.specs.Parts.{part_told, parts_told};
 
 use super::{Part, Parts};
-use crate::words::{count_of_ones, place_of_one};
 use std::alloc::AllocError;
 
 impl Part {
@@ -23,31 +23,43 @@ impl Part {
         ensures value { result ≡ length (part_told self.now) }
         ensures bound { result ≤ 32 }
     {
-        count_of_ones(self.word)
+        self.word.count_ones() as u16
     }
 
-    /// The part's k-th qubit, from 0.
-    pub(crate) fn qubit(&self, k: u16) -> Option<u16>
-        ensures { result ≡ within_range (nat_lt k (length (part_told self.now))) (slice_index (part_told self.now) k) }
+    /// The part's k-th qubit, from 0. Clearing the lowest one k times beats a scan of all places.
+    pub(crate) fn qubit(mut self, k: u16) -> Option<u16>
+        ensures { result ≡ within_range (nat_lt k (length (part_told self))) (slice_index (part_told self) k) }
     {
-        match place_of_one(self.word, k) {
-            Some(x) => Some(self.first + x * self.step),
-            None => None,
-        }
+        self.nth(k as usize)
     }
 
     /// Appends the part's qubits to a list that has room for them.
-    pub(crate) fn tell(&self, list: &mut Vec<u16>)
-        requires { vec_len list.old + length (part_told self.now) ≤ vec_capacity list.old }
-        ensures items { list.new.items ≡ list.old.items ++ part_told self.now }
+    pub(crate) fn tell(self, list: &mut Vec<u16>)
+        requires { vec_len list.old + length (part_told self) ≤ vec_capacity list.old }
+        ensures items { list.new.items ≡ list.old.items ++ part_told self }
         ensures capacity { vec_capacity list.new ≡ vec_capacity list.old }
     {
-        let mut rest = self.word;
-        while rest != 0 {
-            let x = rest.trailing_zeros() as u16;
-            list.push_reserved(self.first + x * self.step);
-            rest &= rest - 1;
+        for qubit in self {
+            list.push_reserved(qubit);
         }
+    }
+}
+
+/// The qubits of a part one after the other, the lowest place first; the part keeps those that are left.
+impl Iterator for Part {
+    type Item = u16;
+
+    ghost next_gives = { YieldsFirst part_told };
+
+    ghost remaining = { item_count part_told };
+
+    fn next(&mut self) -> Option<u16> {
+        if self.word == 0 {
+            return None;
+        }
+        let place = self.word.trailing_zeros() as u16;
+        self.word &= self.word - 1;
+        Some(self.first + place * self.step)
     }
 }
 

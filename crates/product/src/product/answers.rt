@@ -44,17 +44,11 @@ impl Code for Product {
     }
 
     fn row_len(&self, row: Row) -> Option<u16> {
-        match self.parts(row) {
-            Some(parts) => Some(parts.len()),
-            None => None,
-        }
+        Some(self.parts(row)?.len())
     }
 
     fn row_qubit(&self, row: Row, k: u16) -> Option<u16> {
-        match self.parts(row) {
-            Some(parts) => parts.qubit(k),
-            None => None,
-        }
+        self.parts(row)?.qubit(k)
     }
 
     fn tell_row(&self, row: Row, list: &mut Vec<u16>) -> Result<(), AllocError> {

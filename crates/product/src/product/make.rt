@@ -35,7 +35,7 @@ impl Product {
 fn size_outside(k: u16) -> bool
     ensures { result ≡ size_outside k }
 {
-    k < 1 || k > 32
+    !(1..=32).contains(&k)
 }
 
 fn lies_outside(rows: u16, columns: u16, p: Place) -> bool
@@ -47,38 +47,17 @@ fn lies_outside(rows: u16, columns: u16, p: Place) -> bool
 fn some_outside(rows: u16, columns: u16, places: &[Place]) -> bool
     ensures { result ≡ some_outside rows columns places.now }
 {
-    for p in places {
-        if lies_outside(rows, columns, *p) {
-            return true;
-        }
-    }
-    false
-}
-
-/// Whether a place comes after the last one, if there was one.
-fn comes_after(last: Option<Place>, p: Place) -> bool
-    ensures { result ≡ after last p }
-{
-    match last {
-        Some(q) => q.row < p.row || q.row == p.row && q.column < p.column,
-        None => true,
-    }
+    places.iter().any(|p| lies_outside(rows, columns, *p))
 }
 
 fn rises(places: &[Place]) -> bool
     ensures { result ≡ rising_from Nothing places.now }
 {
-    let mut last = None;
-    for p in places {
-        if !comes_after(last, *p) {
-            return false;
-        }
-        last = Some(*p);
-    }
-    true
+    places.is_sorted_by(|p, q| p < q)
 }
 
 /// Puts a one at a place of a line.
+// Kept: a function on the array of words; a struct around it with methods would put `.0` in each clause and theorem that reads the seed.
 fn mark(words: &mut [u32; 32], line: u16, place: u16)
     requires { (line < 32) × (place < 32) }
     ensures { (a b : ℕ) → one_at words.new a b ≡ ((a == line && b == place) || one_at words.old a b) }

@@ -1,4 +1,4 @@
-use Rattle.std.proofs.Common.{◌≡◌, ℕ, List, ◌++◌, length, None, Ok, ap, ◌∙◌}
+use Rattle.std.proofs.Common.{◌≡◌, ℕ, List, length, None, Ok, ap, ◌∙◌}
 use Rattle.terms.specs.Answering.{Answers}
 use Rattle.terms.proofs.Answering.{answered_ok, memory_ok}
 use Rattle.meaning.specs.Meaning.{Meaning}
@@ -23,8 +23,8 @@ pub record Made (r n : ℕ) (l : List Place) (p : Product) : Type 0 where
 made : (r n : ℕ) (l : List Place) (p : Product) → Answers (Ok p) (seed_fault r n l) (λ x. (meaning_of x ≡ product_code r n (seed_of r n l)) × (told_of x ≡ product_told r n (seed_of r n l))) → Made r n l p
 made r n l p h = let a = answered_ok p (seed_fault r n l) (λ x. (meaning_of x ≡ product_code r n (seed_of r n l)) × (told_of x ≡ product_told r n (seed_of r n l))) h in record { taken = a.0; means = a.1.0; tells = a.1.1 }
 
-pub append_names-requires : goal.append_names-requires
-append_names-requires c =
+pub invariant_of-grid : goal.invariant_of-grid
+invariant_of-grid c =
     let r = c.args.rows in
     let n = c.args.columns in
     let l = c.args.places.now in
@@ -32,7 +32,10 @@ append_names-requires c =
     let s = taken_sizes r n l m.taken in
     let seed : Seed r n (seed_of r n l) = matrix_seed r n (λ a b. marked a b l) s.rows.0 s.rows.1 s.columns.0 s.columns.1 in
     record {
-      sizes = (s.rows.0, s.rows.1, s.columns.0, s.columns.1);
+      some_rows = s.rows.0;
+      few_rows = s.rows.1;
+      some_columns = s.columns.0;
+      few_columns = s.columns.1;
       checks = ap (λ (M : Meaning). length M.checks) m.means ∙ product_checks r n (seed_of r n l) seed;
       generators = ap (λ (M : Meaning). length M.generators) m.means ∙ product_generators r n (seed_of r n l) seed;
     }
@@ -40,5 +43,4 @@ append_names-requires c =
 pub returns : goal.returns
 returns c =
     let m = made c.args.rows c.args.columns c.args.places.now c.in_ok-product.product c.in_ok-product.ensures in
-    memory_ok _ _ _ m.taken
-    (c.in_ok-append_names.ensures ∙ ap (λ l. l ++ names_text c.args.rows c.args.columns (told_of c.in_ok-product.product)) c.new-out.ensures.bytes ∙ ap (names_text c.args.rows c.args.columns) m.tells)
+    memory_ok _ _ _ m.taken (c.in_ok-format.ensures.ok ∙ ap (names_text c.args.rows c.args.columns) m.tells)

@@ -1,21 +1,22 @@
-use Rattle.std.proofs.Common.{◌≡◌, ℕ, ◌%◌, ◌≤◌, cond, eqb, List, [], ◌∷◌, ◌++◌, map, length, Some, None, sym, ap, ◌∙◌, arith, le-ltb, ne_eqb}
-use Rattle.std.specs.List.{range_with_len}
-use Rattle.std.proofs.lemmas.List.FromFn.{map-range_with_len_more}
+use Rattle.std.proofs.Common.{◌≡◌, ℕ, ◌-◌, ◌/◌, ◌%◌, ◌≤◌, cond, eqb, List, map, take, drop, length, Some, None, ap, ◌∙◌, arith, le-ltb, ne_eqb}
+use Rattle.std.specs.Simd.{first_chunks}
+use Rattle.std.proofs.lemmas.List.{length-drop, take_all}
 use Rattle.terms.specs.declared.refusal.Refusal.TheVariants.{WrongEnd, OutsideLimits}
 use Rattle.terms.proofs.Answering.{memory_ok}
-use Rattle.naming.specs.Texts.{place_at, count_fault}
+use Rattle.naming.specs.Texts.{count_fault}
+use Rattle.naming.proofs.Pairs.{place_of, pairs_places}
 use Rattle.naming.proofs.texts.places_in.Goals as goal
-
-pub loop-k-preserved : goal.loop-k-preserved
-loop-k-preserved c =
-    let numbers = c.args.numbers.now in
-    let k = c.loop-k.k in
-    c.in_ok-push.ensures.items ∙ ap (λ l. l ++ place_at numbers k ∷ []) c.loop-k.invariant ∙ sym (map-range_with_len_more (place_at numbers) 0 k k (omega arith))
 
 counted : (l : List ℕ) → 2 ≤ length l → (length l % 2 ≡ 1 → ⊥) → count_fault l ≡ None
 counted l h o = ap (λ t. cond t (Some WrongEnd) (cond (eqb (length l % 2) 1) (Some OutsideLimits) None)) (le-ltb (length l) 2 h) ∙ ap (λ t. cond t (Some OutsideLimits) None) (ne_eqb (length l % 2) 1 o)
 
 pub returns : goal.returns
 returns c =
-    let numbers = c.args.numbers.now in
-    memory_ok _ _ _ (counted numbers (omega arith) (λ e. absurd (omega arith))) (c.loop-k.invariant ∙ ap (λ k. map (place_at numbers) (range_with_len 0 k)) (omega arith))
+    let l = c.args.numbers.now in
+    let n = length-drop 2 l in
+    let even : length l % 2 ≡ 1 → ⊥ = λ e. omega (arith, n, e, c.as_chunks.ensures.back_len, c.in_default-empty.len_below, c.in-len2-up.len_at_least) in
+    let rest : take (length l - 2) (drop 2 l) ≡ drop 2 l = take_all (length l - 2) (drop 2 l) (omega (arith, n)) in
+    let half : length (take (length l - 2) (drop 2 l)) / 2 ≡ (length l - 2) / 2 = ap (λ x. length x / 2) rest ∙ ap (λ k. k / 2) n in
+    let pairs : c.as_chunks.result.0.now ≡ first_chunks 2 ((length l - 2) / 2) (drop 2 l) = c.as_chunks.ensures.front ∙ (λ i. first_chunks 2 (half i) (rest i)) in
+    memory_ok _ _ _ (counted l c.in-len2-up.len_at_least even)
+    (c.loop-row.invariant ∙ ap (map place_of) (take_all c.loop-row.row-index c.as_chunks.result.0.now c.loop-row-test.false ∙ pairs) ∙ pairs_places l 0 ((length l - 2) / 2) 2 (omega arith))

@@ -1,7 +1,6 @@
-use Rattle.std.proofs.Common.{◌≡◌, map, vec_items}
-use Rattle.std.specs.List.{range_with_len}
-use Rattle.naming.specs.Texts.{place_at}
+use Rattle.std.proofs.Common.{◌≡◌, map, take, vec_items}
+use Rattle.naming.proofs.Pairs.{place_of}
 use Rattle.naming.proofs.texts.places_in.Given as goal
 
-abbrev pub invariant-loop-k : goal.invariant-loop-k
-invariant-loop-k l = vec_items l.places ≡ map (place_at l.numbers) (range_with_len 0 l.k)
+abbrev pub invariant-loop-row : goal.invariant-loop-row
+invariant-loop-row l = vec_items l.places ≡ map place_of (take l.row-index l.pairs)

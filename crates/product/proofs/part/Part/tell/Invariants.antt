@@ -1,11 +1,10 @@
-use Rattle.std.proofs.Common.{length, vec_items, vec_len, vec_capacity}
-use Rattle.sets.specs.Sets.{elements}
-use Rattle.product.specs.Words.{ones}
-use Rattle.product.proofs.Walked.{Telling}
+use Rattle.std.proofs.Common.{◌≡◌, ◌+◌, ◌≤◌, ◌++◌, length, vec_items, vec_len, vec_capacity}
+use Rattle.product.specs.Parts.{part_told}
 use Rattle.product.proofs.part.Part.tell.Given as goal
 
-abbrev pub invariant-loop-rest : goal.invariant-loop-rest
-invariant-loop-rest l = Telling l.self (vec_items l.initial.list) (vec_items l.list) l.rest (vec_len l.list) (vec_capacity l.initial.list) (vec_capacity l.list)
-
-abbrev pub decreases-loop-rest : goal.decreases-loop-rest
-decreases-loop-rest l = length (elements (ones l.rest))
+abbrev pub invariant-loop-qubit : goal.invariant-loop-qubit
+invariant-loop-qubit l = record {
+  told : vec_items l.list ++ part_told l.qubit-iterator ≡ vec_items l.initial.list ++ part_told l.fn.self;
+  room : vec_len l.list + length (part_told l.qubit-iterator) ≤ vec_capacity l.list;
+  same : vec_capacity l.list ≡ vec_capacity l.initial.list;
+}

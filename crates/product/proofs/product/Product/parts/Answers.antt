@@ -1,21 +1,10 @@
 use Rattle.std.proofs.Common.{Some, None, sym, subst, arith, le-ltb, lt-ltb}
-use Rattle.std.proofs.lemmas.Nat.{div_below, mod_below}
 use Rattle.terms.specs.declared.row.Row.{Row}
 use Rattle.meaning.proofs.Product.{product_checks, product_generators}
 use Rattle.product.specs.OfProduct.{seed, meaning_of, told_of}
 use Rattle.product.specs.Parts.{Splits}
 use Rattle.product.specs.Stands.{is_seed}
 use Rattle.product.proofs.product.Product.parts.Goals as goal
-
-pub check_parts-requires : goal.check_parts-requires
-check_parts-requires c =
-    let p = c.args.self.now in
-    (div_below c.in-Check.k p.rows p.columns p.some_rows c.if-k-columns.true, mod_below c.in-Check.k p.rows p.some_rows)
-
-pub generator_parts-requires : goal.generator_parts-requires
-generator_parts-requires c =
-    let p = c.args.self.now in
-    (div_below c.in-Generator.k p.columns p.rows p.some_columns c.if-k-rows.true, mod_below c.in-Generator.k p.columns p.some_columns)
 
 pub returns-then-k-columns : goal.returns-then-k-columns
 unfolding meaning_of told_of

@@ -1,20 +1,11 @@
-use Rattle.std.proofs.Common.{◌&&◌, ◌||◌, eqb, get_or, take, sym, ap, ◌∙◌, arith}
-use Rattle.std.proofs.lemmas.List.{take_all}
+use Rattle.std.proofs.Common.{◌&&◌, ◌||◌, eqb, get_or, take, sym, ap, ◌∙◌}
 use Rattle.sets.proofs.Bits.{and_comm}
 use Rattle.product.specs.Seed.{marked}
-use Rattle.product.proofs.Seeds.{origin, inside_at, marked_more, no_ones}
+use Rattle.product.proofs.Seeds.{origin, marked_more, no_ones}
 use Rattle.product.proofs.product.make.words.Goals as goal
 
 pub loop-p-init : goal.loop-p-init
 loop-p-init c = record { by_row = λ a b. no_ones 32 a b; by_column = λ a b. no_ones 32 b a }
-
-pub mark-requires : goal.mark-requires
-mark-requires c = inside_at 32 32 c.args.places.now c.loop-p.p-index c.requires c.loop-p-test.true
-
-pub mark-requires-in-loop-p : goal.mark-requires-in-loop-p
-mark-requires-in-loop-p c =
-    let h = inside_at 32 32 c.args.places.now c.loop-p.p-index c.requires c.loop-p-test.true in
-    (h.1, h.0)
 
 pub loop-p-preserved : goal.loop-p-preserved
 loop-p-preserved c =
@@ -27,12 +18,4 @@ loop-p-preserved c =
           ∙ ap (λ t. (eqb b p.column && eqb a p.row) || t) (c.loop-p.invariant.by_column a b)
           ∙ ap (λ t. t || marked a b (take i l)) (and_comm (eqb b p.column) (eqb a p.row))
           ∙ sym (marked_more a b l i c.loop-p-test.true);
-    }
-
-pub returns : goal.returns
-returns c =
-    let all = take_all c.loop-p.p-index c.args.places.now (omega arith) in
-    record {
-      rows = λ a b. c.loop-p.invariant.by_row a b ∙ ap (marked a b) all;
-      columns = λ a b. c.loop-p.invariant.by_column a b ∙ ap (marked a b) all;
     }

@@ -6,13 +6,7 @@ use Rattle.meaning.proofs.Answered.{in_range, out_of_range}
 use Rattle.meaning.proofs.Product.{product_qubits}
 use Rattle.product.specs.OfProduct.{seed, meaning_of}
 use Rattle.product.specs.Stands.{is_seed}
-use Rattle.product.proofs.Entries.{pairs_low}
 use Rattle.product.proofs.product.answers.ProductCode.side.Goals as goal
-
-pub overflow_add-pairs : goal.overflow_add-pairs
-overflow_add-pairs c =
-    let p = c.args.self.now in
-    omega (arith, pairs_low p.columns p.columns p.few_columns p.few_columns, pairs_low p.rows p.rows p.few_rows p.few_rows)
 
 pub returns-then-qubit-pairs : goal.returns-then-qubit-pairs
 unfolding meaning_of

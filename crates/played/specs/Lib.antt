@@ -1,0 +1,3 @@
+pub mod Making
+pub mod Printing
+pub mod Reading

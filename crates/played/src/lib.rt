@@ -1,0 +1,6 @@
+//! What the programs share that play recorded lines to codes and trials: the numbers of a line, and the codes that they give.
+#![tactic(auto)]
+
+pub mod codes;
+pub mod numbers;
+pub mod refused;

@@ -1,0 +1,82 @@
+//! The numbers of a line, read one after the other.
+ghost use Rattle.std.specs.Prelude.{◌≡◌, ◌/◌, drop, length, IfOk, OnOk, min, slice_index};
+ghost use Rattle.std.specs.Simd.{first_chunks};
+ghost use Rattle.played.specs.Reading.{short, counted, after_counted};
+
+use std::alloc::{AllocError, Global};
+
+/// The numbers that are left to read; past the end each is 0.
+#[derive(Clone, Copy)]
+pub struct Numbers<'a> {
+    rest: &'a [u32],
+}
+
+impl<'a> Numbers<'a> {
+    pub fn new(numbers: &'a [u32]) -> Numbers<'a>
+        ensures { result.rest.now ≡ numbers.now }
+    {
+        Numbers { rest: numbers }
+    }
+
+    pub fn next(&mut self) -> u32
+        ensures value { result ≡ slice_index self.old.rest.now 0 }
+        ensures rest { self.new.rest.now ≡ drop 1 self.old.rest.now }
+    {
+        let Some((first, rest)) = self.rest.split_first() else {
+            return 0;
+        };
+        self.rest = rest;
+        *first
+    }
+
+    /// The next number as a place in a list.
+    pub fn place(&mut self) -> usize
+        ensures value { result ≡ slice_index self.old.rest.now 0 }
+        ensures rest { self.new.rest.now ≡ drop 1 self.old.rest.now }
+    {
+        self.next() as usize
+    }
+
+    /// The next number as one of a qubit, check or generator; what is larger than any becomes the largest.
+    pub fn short(&mut self) -> u16
+        ensures value { result ≡ short (slice_index self.old.rest.now 0) }
+        ensures rest { self.new.rest.now ≡ drop 1 self.old.rest.now }
+    {
+        shortened(self.next())
+    }
+
+    pub fn byte(&mut self) -> u8
+        ensures value { result ≡ min (slice_index self.old.rest.now 0) 255 }
+        ensures rest { self.new.rest.now ≡ drop 1 self.old.rest.now }
+    {
+        u8::try_from(self.next()).unwrap_or(u8::MAX)
+    }
+
+    /// A count and so many numbers.
+    pub fn list(&mut self, heap: Global) -> Result<Vec<u16>, AllocError>
+        ensures items { IfOk result (λ v. v.items ≡ counted self.old.rest.now) }
+        ensures rest { OnOk result (self.new.rest.now ≡ after_counted self.old.rest.now) }
+    {
+        let count = self.next();
+        let mut list = Vec::new(heap);
+        for _read in 0..count {
+            list.push(self.short())?;
+        }
+        Ok(list)
+    }
+
+    /// The numbers that are left, two by two; one that is left over is left out.
+    pub(crate) fn pairs(&self) -> &'a [[u32; 2]]
+        ensures { result.now ≡ first_chunks 2 (length self.now.rest.now / 2) self.now.rest.now }
+    {
+        let (pairs, _) = self.rest.as_chunks::<2>();
+        pairs
+    }
+}
+
+/// A number as one of a qubit, check or generator.
+pub(crate) fn shortened(number: u32) -> u16
+    ensures { result ≡ short number }
+{
+    u16::try_from(number).unwrap_or(u16::MAX)
+}

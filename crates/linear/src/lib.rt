@@ -5,95 +5,69 @@
 ghost use Rattle.linear.specs.Theorems.{InsertionKeeps, InsertionGrows, Independence, RowsAbsorbed, AllListed, Counted, LeastSolves, LeastFirst, LeastAlone, SystemTold, Compressed, BitsAreSubsets, ThreeValues, OneNumber, AlongBijection, PairsMultiply};
 
 /// What solves a basis after a row went into it is what solved it before and meets the row; a new row uses up one free column.
-pub fn a_row_goes_into_a_basis_without_loss<F>() -> u8
+pub fn a_row_goes_into_a_basis_without_loss<F>()
     ensures keeps { InsertionKeeps F }
     ensures grows { InsertionGrows F }
-{
-    0
-}
+{}
 
 /// A row makes a basis grow exactly if some vector is zero on all the basis's rows and not on this one.
-pub fn a_row_is_new_if_it_is_independent<F>() -> u8
+pub fn a_row_is_new_if_it_is_independent<F>()
     ensures { Independence F }
-{
-    0
-}
+{}
 
 /// One row after another: the basis at the end has the solutions of the first that meet every row, or there are none.
-pub fn rows_are_absorbed_one_after_another<F>() -> u8
+pub fn rows_are_absorbed_one_after_another<F>()
     ensures { RowsAbsorbed F }
-{
-    0
-}
+{}
 
 /// The list of all solutions of a basis has each once, and nothing else.
-pub fn all_solutions_are_listed_once<F>() -> u8
+pub fn all_solutions_are_listed_once<F>()
     ensures { AllListed F }
-{
-    0
-}
+{}
 
 /// A basis has exactly (number of values) ^ (free columns) solutions.
-pub fn the_number_of_solutions_is_a_power<F>() -> u8
+pub fn the_number_of_solutions_is_a_power<F>()
     ensures { Counted F }
-{
-    0
-}
+{}
 
 /// The solution with every free unknown zero is the least: it comes before every other, and only it does.
-pub fn the_least_solution_comes_before_every_other<F>() -> u8
+pub fn the_least_solution_comes_before_every_other<F>()
     ensures solves { LeastSolves F }
     ensures first { LeastFirst F }
     ensures alone { LeastAlone F }
-{
-    0
-}
+{}
 
 /// Of a system as it is stated, elimination tells the first solution and how many there are, or that there is none.
-pub fn elimination_answers_for_the_stated_system<F>() -> u8
+pub fn elimination_answers_for_the_stated_system<F>()
     ensures { SystemTold F }
-{
-    0
-}
+{}
 
 /// The solutions under a mask are those over the mask's own unknowns, put back among all.
-pub fn unknowns_kept_zero_can_be_left_out<F>() -> u8
+pub fn unknowns_kept_zero_can_be_left_out<F>()
     ensures { Compressed F }
-{
-    0
-}
+{}
 
 /// What are exactly n things are not exactly m other than n.
-pub fn exactly_n_is_one_number<X>() -> u8
+pub fn exactly_n_is_one_number<X>()
     ensures { OneNumber X }
-{
-    0
-}
+{}
 
 /// A bijection carries exactly n things to exactly n things.
-pub fn exactly_n_goes_along_a_bijection<X, Y>() -> u8
+pub fn exactly_n_goes_along_a_bijection<X, Y>()
     ensures { AlongBijection X Y }
-{
-    0
-}
+{}
 
 /// Exactly a things, with exactly b for each, make exactly a * b pairs.
-pub fn exactly_a_times_b_pairs<X, Y>() -> u8
+pub fn exactly_a_times_b_pairs<X, Y>()
     ensures { PairsMultiply X Y }
-{
-    0
-}
+{}
 
 /// Over bits, the solutions are the subsets that put an odd number into exactly the odd checks.
-pub fn over_bits_solutions_are_subsets() -> u8
+pub fn over_bits_solutions_are_subsets()
     ensures { BitsAreSubsets }
-{
-    0
-}
+{}
 
 /// The same definitions over a field of three values.
-pub fn three_values_are_a_field_too() -> u8
+pub fn three_values_are_a_field_too()
     ensures { ThreeValues }
-{
-    0
-}
+{}

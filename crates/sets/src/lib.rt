@@ -4,8 +4,6 @@
 ghost use Rattle.sets.specs.Counts.{ToldOnce};
 
 /// A list without repeats that names exactly the elements of a set is as long as the set is large.
-pub fn told_once_is_counted_once() -> u8
+pub fn told_once_is_counted_once()
     ensures { ToldOnce }
-{
-    0
-}
+{}

@@ -16,3 +16,8 @@ AnswersIfMemory (Err e) (Some f) P = e ≡ f
 AnswersIfMemory (Err e) None P = e ≡ NoMemory
 AnswersIfMemory (Ok x) (Some f) P = ⊥
 AnswersIfMemory (Ok x) None P = P x
+
+-- what a look for faults answers: the refusal that the rule names, and where it names none nothing
+abbrev pub checked : Option Refusal → Result Unit Refusal
+checked (Some f) = Err f
+checked None = Ok tt

@@ -1,5 +1,5 @@
 -- The number and the meaning of each refusal.
-use Rattle.std.specs.Prelude.{ℕ, List, Some, None, codes, Option}
+use Rattle.std.specs.Prelude.{ℕ, List, ◌++◌, Some, None, codes, decimal, Option}
 use Rattle.terms.specs.declared.refusal.Refusal.{Refusal}
 use Rattle.terms.specs.declared.refusal.Refusal.TheVariants.{QubitTooLarge, CheckTooLarge, GeneratorTooLarge, PruneListLength, BufferTooShort, NotRising, OutsideLimits, LawFails, NotAwaited, WrongEnd, FileTooLong, ScratchNotZero, NotDangling, NothingErased, GeneratorNotErased, EvenlyNamed, SeveralConnecting, TooManyUnknowns, NoSolution, StillErased, ShelfEmpty, TallyFull, WrongSlip, NoMemory}
 
@@ -56,3 +56,12 @@ wording ShelfEmpty = codes "the shelf is empty"
 wording TallyFull = codes "the tally has opened 1000000 trials"
 wording WrongSlip = codes "the slip is not the trial's, or the tally has no slip out"
 wording NoMemory = codes "there is not enough memory"
+
+-- the number as it is printed, after a space; nothing where there is none
+abbrev pub number_text : Option ℕ → List ℕ
+number_text (Some n) = codes " " ++ decimal n
+number_text None = codes ""
+
+-- how a refusal is printed: its number, where it has one, and its meaning
+abbrev pub refusal_words : Refusal → List ℕ
+refusal_words f = codes "refused" ++ (number_text (number f) ++ (codes ": " ++ wording f))

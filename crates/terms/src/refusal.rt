@@ -1,9 +1,10 @@
 //! The refusals: what is wrong with a call that is turned down.
-ghost use Rattle.std.specs.Prelude.{◌≡◌};
-ghost use Rattle.terms.specs.Refusals.{number, wording};
+ghost use Rattle.std.specs.Prelude.{◌≡◌, Some};
+ghost use Rattle.terms.specs.Refusals.{number, wording, refusal_words};
 ghost use Rattle.terms.specs.declared.refusal.Refusal.TheVariants.{NoMemory};
 
 use std::alloc::{AllocError, AllocFailed};
+use std::error::Error;
 use std::fmt;
 
 /// Why a call was turned down. Up to `ScratchNotZero` the input is at fault, after that the state; `NoMemory` is neither, and has no number.
@@ -102,6 +103,21 @@ impl Refusal {
         }
     }
 }
+
+/// `refused`, the number where there is one, and the meaning.
+impl fmt::Display for Refusal {
+    ghost output = { λ f. Some (refusal_words f) };
+
+    fn fmt<W: fmt::Write>(&self, f: &mut fmt::Formatter<W>) -> fmt::Result {
+        let wording = self.wording();
+        match self.number() {
+            Some(number) => write!(f, "refused {number}: {wording}"),
+            None => write!(f, "refused: {wording}"),
+        }
+    }
+}
+
+impl Error for Refusal {}
 
 impl From<AllocError> for Refusal {
     ghost from_gives = { λ _ r. r ≡ NoMemory };

@@ -1,86 +1,62 @@
 //! Changes at listed places. A place past the end changes nothing.
-ghost use Rattle.std.specs.Prelude.{◌≡◌, ◌+◌, ◌-◌, min, true, false, not, ◌++◌, map, length, drop, set, if◌then◌else◌, nat_le, slice_index, slice_index_or, slice_set};
+ghost use Rattle.std.specs.Prelude.{◌≡◌, ◌++◌, map, length, drop, if◌then◌else◌, nat_lt, ℕ, List, Ok, Err, Result};
 ghost use Rattle.rules.specs.Tallies.{byte};
-ghost use Rattle.upkeep.specs.Changed.{turned, marked, lowered, raised};
+ghost use Rattle.terms.specs.declared.refusal.Refusal.{Refusal};
+ghost use Rattle.terms.specs.declared.refusal.Refusal.TheVariants.{BufferTooShort};
+ghost use Rattle.upkeep.specs.Changed.{changed, turned, marked, lowered, raised};
+
+use terms::refusal::Refusal;
 
 /// Turns the mark at each listed place over.
 pub fn turn(places: &[u16], marks: &mut [bool])
     ensures { marks.new ≡ turned places.now marks.old }
 {
-    for k in places {
-        turn_one(*k as usize, marks);
-    }
-}
-
-fn turn_one(k: usize, marks: &mut [bool])
-    ensures { marks.new ≡ slice_set marks.old k (not (slice_index_or marks.old k false)) }
-{
-    if k < marks.len() {
-        marks[k] = !marks[k];
-    }
+    change_each(places, marks, |mark| !mark);
 }
 
 /// Sets the mark at each listed place.
 pub fn mark(places: &[u16], marks: &mut [bool])
     ensures { marks.new ≡ marked places.now marks.old }
 {
-    for k in places {
-        mark_one(*k as usize, marks);
-    }
-}
-
-fn mark_one(k: usize, marks: &mut [bool])
-    ensures { marks.new ≡ slice_set marks.old k true }
-{
-    if k < marks.len() {
-        marks[k] = true;
-    }
+    change_each(places, marks, |_| true);
 }
 
 /// Makes the count at each listed place one lower; 0 stays.
 pub fn lower(places: &[u16], counts: &mut [u16])
     ensures { counts.new ≡ lowered places.now counts.old }
 {
-    for k in places {
-        lower_one(*k as usize, counts);
-    }
-}
-
-fn lower_one(k: usize, counts: &mut [u16])
-    ensures { counts.new ≡ slice_set counts.old k (slice_index counts.old k - 1) }
-{
-    if k < counts.len() {
-        counts[k] = counts[k].saturating_sub(1);
-    }
+    change_each(places, counts, |count| count.saturating_sub(1));
 }
 
 /// Makes the count at each listed place one higher; 65535 stays.
 pub fn raise(places: &[u16], counts: &mut [u16])
     ensures { counts.new ≡ raised places.now counts.old }
 {
+    change_each(places, counts, |count| count.saturating_add(1));
+}
+
+/// Changes what stands at each listed place.
+fn change_each<T: Copy, F: Fn(T) -> T>(places: &[u16], list: &mut [T], change: F)
+    requires { F.IsAlwaysCallable change }
+    ensures { (d : T) (f : T → T) → ((x y : T) → F.post change x y → y ≡ f x) → list.new ≡ changed d f places.now list.old }
+{
     for k in places {
-        raise_one(*k as usize, counts);
+        let k = usize::from(*k);
+        if k < list.len() {
+            list[k] = change(list[k]);
+        }
     }
 }
 
-fn raise_one(k: usize, counts: &mut [u16])
-    ensures { counts.new ≡ slice_set counts.old k (min (slice_index counts.old k + 1) 65535) }
+/// Writes 1 for a mark that is set and 0 for another into the first bytes, one a mark; the others keep their values. With too few bytes nothing is written.
+pub fn write_marks(marks: &[bool], bytes: &mut [u8]) -> Result<(), Refusal>
+    ensures { ◌≡◌ {A = Result (Unit {0}) Refusal × List ℕ} (result, bytes.new) (if nat_lt (length bytes.old) (length marks.now) then (Err BufferTooShort, bytes.old) else (Ok tt, map byte marks.now ++ drop (length marks.now) bytes.old)) }
 {
-    if k < counts.len() {
-        counts[k] = counts[k].saturating_add(1);
+    if bytes.len() < marks.len() {
+        return Err(Refusal::BufferTooShort);
     }
-}
-
-/// Writes 1 for a mark that is set and 0 for another into the first bytes, one a mark; the others keep their values. False where there are too few bytes, and then nothing is written.
-pub fn write_marks(marks: &[bool], bytes: &mut [u8]) -> bool
-    ensures test { result ≡ nat_le (length marks.now) (length bytes.old) }
-    ensures bytes { bytes.new ≡ (if result then map byte marks.now ++ drop (length marks.now) bytes.old else bytes.old) }
-{
-    if marks.len() > bytes.len() {
-        return false;
+    for (k, mark) in marks.iter().enumerate() {
+        bytes[k] = u8::from(*mark);
     }
-    for k in 0..marks.len() {
-        bytes[k] = marks[k] as u8;
-    }
-    true
+    Ok(())
 }

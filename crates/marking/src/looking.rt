@@ -6,27 +6,12 @@ ghost use Rattle.rules.specs.Reports.{rises, some_past};
 pub fn is_rising(list: &[u16]) -> bool
     ensures { result ≡ rises list.now }
 {
-    let [first, rest @ ..] = list else {
-        return true;
-    };
-    let mut last = *first;
-    for k in rest {
-        if *k <= last {
-            return false;
-        }
-        last = *k;
-    }
-    true
+    list.is_sorted_by(|a, b| a < b)
 }
 
 /// Whether some number of a list is not below the limit.
 pub fn some_past(limit: u16, list: &[u16]) -> bool
     ensures { result ≡ some_past limit list.now }
 {
-    for k in list {
-        if *k >= limit {
-            return true;
-        }
-    }
-    false
+    list.iter().any(|k| *k >= limit)
 }

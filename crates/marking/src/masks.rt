@@ -6,10 +6,5 @@ ghost use Rattle.sets.specs.Sets.{any as some};
 pub fn any(marks: &[bool]) -> bool
     ensures { result ≡ some marks.now }
 {
-    for m in marks {
-        if *m {
-            return true;
-        }
-    }
-    false
+    marks.contains(&true)
 }

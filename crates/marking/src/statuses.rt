@@ -10,49 +10,26 @@ use rules::answers::Status;
 pub fn is_erased(qubit: u16, status: &[Status]) -> bool
     ensures { result ≡ has (erased_of status.now) qubit }
 {
-    let q = qubit as usize;
-    if q >= status.len() {
-        return false;
-    }
-    match status[q] {
-        Status::Erased => true,
-        Status::Shelved | Status::Done => false,
-    }
+    status.get(usize::from(qubit)) == Some(&Status::Erased)
 }
 
 /// The first erased qubit of a row.
 pub fn erased_among(row: &[u16], status: &[Status]) -> Option<u16>
     ensures { result ≡ first_in (erased_of status.now) row.now }
 {
-    for q in row {
-        if is_erased(*q, status) {
-            return Some(*q);
-        }
-    }
-    None
+    row.iter().copied().find(|q| is_erased(*q, status))
 }
 
 /// Whether all qubits of a row are erased.
 pub fn all_erased(row: &[u16], status: &[Status]) -> bool
     ensures { result ≡ all_in (erased_of status.now) row.now }
 {
-    for q in row {
-        if !is_erased(*q, status) {
-            return false;
-        }
-    }
-    true
+    row.iter().all(|q| is_erased(*q, status))
 }
 
 /// Whether some qubit is not done.
 pub fn some_left(status: &[Status]) -> bool
     ensures { result ≡ (some (erased_of status.now) || some (shelved_of status.now)) }
 {
-    for s in status {
-        match *s {
-            Status::Erased | Status::Shelved => return true,
-            Status::Done => {}
-        }
-    }
-    false
+    status.iter().any(|s| *s != Status::Done)
 }

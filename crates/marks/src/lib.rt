@@ -1,13 +1,15 @@
 //! Marks in scratch bytes, and a guard that clears them again on every way out.
 #![tactic(auto)]
 
-ghost use Rattle.std.specs.Prelude.{◌≡◌, ◌||◌, length, nat_le};
+ghost use Rattle.std.specs.Prelude.{◌≡◌};
+ghost use Rattle.terms.specs.Answering.{checked};
 ghost use Rattle.marks.specs.Marks.{scratch_fault, is_marked, with_mark, cleared, Restores};
 
 use terms::refusal::Refusal;
 
 /// Holds scratch bytes during a walk over qubits. Of them the first `qubits` serve as marks; they are zero again once the guard ends,
 /// and the others are never touched.
+// Kept: over the first bytes alone, what the caller's buffer ends as would be an `ensures*` on a part of it; the clause on the lender is an equation.
 pub struct Marks<'a> {
     scratch: &'a mut [u8],
     qubits: usize,
@@ -17,14 +19,9 @@ impl Drop for Marks<'_> {
     fn drop(self)
         ensures { self.exit.0.now ≡ cleared self.entry.qubits self.entry.scratch.now }
     {
-        let end = self.qubits.min(self.scratch.len());
-        for k in 0..end {
-            self.scratch[k] = 0;
-        }
-        let Marks {
-            scratch: _,
-            qubits: _,
-        } = self;
+        let Marks { scratch, qubits } = self;
+        let end = qubits.min(scratch.len());
+        scratch[..end].fill(0);
     }
 }
 
@@ -40,21 +37,11 @@ impl<'a> Marks<'a> {
 }
 
 impl Marks<'_> {
-    /// Whether there is no byte for this number.
-    fn is_outside(&self, k: usize) -> bool
-        ensures { result ≡ (nat_le self.now.qubits k || nat_le (length self.now.scratch.now) k) }
-    {
-        k >= self.qubits || k >= self.scratch.len()
-    }
-
     /// Whether a qubit is marked.
     pub fn is_marked(&self, k: usize) -> bool
         ensures { result ≡ is_marked self.now.qubits self.now.scratch.now k }
     {
-        if self.is_outside(k) {
-            return false;
-        }
-        self.scratch[k] != 0
+        k < self.qubits && k < self.scratch.len() && self.scratch[k] != 0
     }
 
     /// Marks a qubit; a number that is none of the qubits changes nothing.
@@ -63,31 +50,26 @@ impl Marks<'_> {
         ensures size { self.new.qubits ≡ self.old.qubits }
         ensures lender { self.new.scratch.ghost_name ≡ self.old.scratch.ghost_name }
     {
-        if self.is_outside(k) {
-            return;
+        if k < self.qubits && k < self.scratch.len() {
+            self.scratch[k] = 1;
         }
-        self.scratch[k] = 1;
     }
 }
 
-/// Why scratch bytes cannot serve for so many qubits, if they cannot.
-pub fn scratch_fault(scratch: &[u8], qubits: usize) -> Option<Refusal>
-    ensures { result ≡ scratch_fault qubits scratch.now }
+/// Scratch bytes cannot serve for so many qubits where they are too few, or where one that would serve is not zero.
+pub fn scratch_fault(scratch: &[u8], qubits: usize) -> Result<(), Refusal>
+    ensures { result ≡ checked (scratch_fault qubits scratch.now) }
 {
-    if scratch.len() < qubits {
-        return Some(Refusal::BufferTooShort);
+    let Some(used) = scratch.get(..qubits) else {
+        return Err(Refusal::BufferTooShort);
+    };
+    if used.iter().any(|byte| *byte != 0) {
+        return Err(Refusal::ScratchNotZero);
     }
-    for k in 0..qubits {
-        if scratch[k] != 0 {
-            return Some(Refusal::ScratchNotZero);
-        }
-    }
-    None
+    Ok(())
 }
 
 /// Scratch bytes that had no fault, marked and then cleared by the guard, are as they were.
-pub fn cleared_scratch_is_as_it_was() -> u8
+pub fn cleared_scratch_is_as_it_was()
     ensures { Restores }
-{
-    0
-}
+{}

@@ -1,6 +1,7 @@
 -- A trial's tables after one qubit is done: they fit, and mean what the rule says.
-use Rattle.std.proofs.Common.{◌≡◌, ℕ, ◌+◌, ◌<◌, ◌≤◌, Bool, true, cond, not, List, [], map, length, get_or, set, vec_items, sym, ap, ◌∙◌, arith, length-set}
-use Rattle.std.proofs.lemmas.List.{length-map, get_or-map, get_or_read}
+use Rattle.std.proofs.Common.{◌≡◌, ℕ, ◌+◌, ◌<◌, ◌≤◌, Bool, true, false, cond, not, List, [], map, length, get_or, set, vec_items, sym, refl, ap, ◌∙◌, arith, length-set}
+use mathlib.Core.Bool.{beq}
+use Rattle.std.proofs.lemmas.List.{length-map, get_or-map, get_or_read, set-get_or}
 use Rattle.sets.specs.Sets.{has, meet, only, empty, size, elements}
 use Rattle.meaning.specs.Meaning.{Meaning, qubits}
 use Rattle.rules.specs.declared.answers.Status.{Status}
@@ -8,7 +9,7 @@ use Rattle.rules.specs.declared.answers.Status.TheVariants.{Done}
 use Rattle.rules.specs.States.{State, finish}
 use Rattle.rules.specs.Calls.{held}
 use Rattle.table.specs.OfTable.{meaning_of}
-use Rattle.upkeep.specs.Changed.{turned, lowered}
+use Rattle.upkeep.specs.Changed.{changed, turned, lowered}
 use Rattle.upkeep.specs.Counts.{counts_in}
 use Rattle.upkeep.specs.Statuses.{is_erased, is_shelved, erased_of, shelved_of}
 use Rattle.upkeep.proofs.Changed.{length_changed}
@@ -45,6 +46,18 @@ unfolding model
 held_at t c low n e =
     let low' : c < length (vec_items t.held) = omega (arith, held_length t) in
     get_or_read (vec_items t.held) c n low' e 0 ∙ ap (λ l. get_or l c 0) t.counts_fit ∙ get_or-map (λ s. size (meet s (erased_of (vec_items t.status)))) (code t).checks c [] 0 low
+
+-- no changes, where a test fails
+pub changed_if : {X : Type 0} (d : X) (f : X → X) (b : Bool) (l : List ℕ) (xs : List X) → changed d f (cond b l []) xs ≡ cond b (changed d f l xs) xs
+changed_if d f true l xs = refl
+changed_if d f false l xs = refl
+
+-- the mark x of q turned over, where a test holds
+pub turned_if : (m : List Bool) (q : ℕ) (flip x : Bool) → x ≡ has m q → set m q (not (beq x flip)) ≡ cond flip (set m q (not (has m q))) m
+turned_if m q true true e = ap (λ y. set m q (not y)) e
+turned_if m q true false e = ap (λ y. set m q (not y)) e
+turned_if m q false true e = ap (set m q) e ∙ set-get_or m q false
+turned_if m q false false e = ap (set m q) e ∙ set-get_or m q false
 
 module _ (t : Trial) (q : ℕ) (low : q < qubits (code t)) (st : Status) (read : st ≡ get_or (vec_items t.status) q st) (flip : Bool) (flipped odd : List Bool) (counts : List ℕ)
     (is-flipped : flipped ≡ cond flip (set (vec_items t.flipped) q (not (has (vec_items t.flipped) q))) (vec_items t.flipped))

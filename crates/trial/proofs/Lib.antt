@@ -1,4 +1,5 @@
 pub mod Filled
+pub mod Checked
 pub mod Done
 pub mod Peels
 pub mod Prunes

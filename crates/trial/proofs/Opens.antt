@@ -1,5 +1,5 @@
 -- A trial as it is opened.
-use Rattle.std.proofs.Common.{◌≡◌, ℕ, ◌+◌, ◌≤◌, Bool, false, List, [], length, replicate, Some, None, Ok, Err, Result, sym, refl, ap, ◌∙◌, subst, arith}
+use Rattle.std.proofs.Common.{◌≡◌, ℕ, ◌+◌, ◌≤◌, List, length, replicate, Some, None, Ok, Err, Result, sym, refl, ap, ◌∙◌, subst, arith}
 use lib.ListN.{length-replicate}
 use Rattle.std.proofs.lemmas.List.{length-map}
 use Rattle.terms.specs.declared.refusal.Refusal.{Refusal}
@@ -7,19 +7,19 @@ use Rattle.terms.specs.declared.refusal.Refusal.TheVariants.{NoMemory}
 use Rattle.sets.specs.Sets.{size, empty}
 use Rattle.sets.proofs.Sets.{has_empty}
 use Rattle.sets.proofs.Sizes.{size_length}
-use Rattle.meaning.specs.Meaning.{Meaning, qubits}
+use Rattle.meaning.specs.Meaning.{Meaning}
 use Rattle.rules.specs.declared.answers.Status.{Status}
 use Rattle.rules.specs.declared.answers.Status.TheVariants.{Erased, Done}
 use Rattle.rules.specs.Reports.{report}
 use Rattle.rules.specs.States.{State, opening}
 use Rattle.rules.specs.Tallies as rules
-use Rattle.upkeep.specs.Changed.{changed, marked}
+use Rattle.upkeep.specs.Changed.{changed}
 use Rattle.upkeep.specs.Fault.{fault}
 use Rattle.upkeep.specs.Statuses.{is_erased, erased_of, shelved_of}
 use Rattle.upkeep.proofs.Changed.{length_changed}
 use Rattle.upkeep.proofs.Counts.{size_nothing}
-use Rattle.upkeep.proofs.Faults.{fault_clear, fault_some, fault_none}
-use Rattle.upkeep.proofs.Opened.{shelved_changed, shelved_none, is_opening}
+use Rattle.upkeep.proofs.Faults.{fault_some, fault_none}
+use Rattle.upkeep.proofs.Opened.{shelved_changed, shelved_none}
 use Rattle.trial.specs.Opening.{Opens}
 
 -- the statuses fit, and there is room to count each erased qubit
@@ -57,45 +57,7 @@ module _ (M : Meaning) (t : rules.Tally) (lost odds : List ℕ) where
       let r = sym (fault_none t takes (rules.open_bars M t lost odds) e) in
       (ap Ok eo ∙ ap (λ (x : Result rules.Opened Refusal × rules.Tally). x.0) r, eu ∙ ap (λ (x : Result rules.Opened Refusal × rules.Tally). x.1) r)
 
-  -- the tables, as they are made, are those of the trial that the rule opens
-  pub opened : None ≡ fault (rules.open_bars M t lost odds) → (status : List Status) (flipped closed odd : List Bool) (number slip : ℕ)
-      → status ≡ changed Done (λ _. Erased) lost (replicate (qubits M) Done) → flipped ≡ replicate (qubits M) false → closed ≡ replicate (length M.checks) false
-      → odd ≡ marked odds (replicate (length M.checks) false) → number ≡ t.opened + 1 → slip ≡ number
-      → ◌≡◌ {A = rules.Opened}
-      (record {
-        trial = record {
-          erased = erased_of status;
-          shelved = shelved_of status;
-          flipped = flipped;
-          closed = closed;
-          odds = odd;
-          shelf = [];
-          void = false;
-          number = number;
-          peeled = 0;
-          pruned = 0;
-          chosen = 0;
-        };
-        slip = slip;
-      })
-      (record { trial = opening M (report M lost odds) (t.opened + 1); slip = t.opened + 1 })
-  opened e status flipped closed odd number slip es ef ec eo en el =
-      let c = fault_clear (rules.open_bars M t lost odds) (sym e) in
-      let b = is_opening M lost odds (t.opened + 1) c.0 c.1.0 status es in
-      let l = el ∙ en in
-      let a : ◌≡◌ {A = State} _ _ = λ i.
-      record {
-        erased = erased_of status;
-        shelved = shelved_of status;
-        flipped = ef i;
-        closed = ec i;
-        odds = eo i;
-        shelf = [];
-        void = false;
-        number = en i;
-        peeled = 0;
-        pruned = 0;
-        chosen = 0;
-      } in
-      let s = a ∙ b in
-      λ i. record { trial = s i; slip = l i }
+  -- a trial that was begun, with its number, is the one that the rule opens
+  pub numbered : (s : State) (number slip : ℕ) → s ≡ opening M (report M lost odds) 0 → number ≡ t.opened + 1 → slip ≡ number
+      → ◌≡◌ {A = rules.Opened} (record { trial = record s { number = number }; slip = slip }) (record { trial = opening M (report M lost odds) (t.opened + 1); slip = t.opened + 1 })
+  numbered s number slip es en el = let l = el ∙ en in λ i. record { trial = record (es i) { number = en i }; slip = l i }

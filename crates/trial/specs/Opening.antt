@@ -1,15 +1,13 @@
 -- What an opening answers, as the rules have it.
-use Rattle.std.specs.Prelude.{◌≡◌, ℕ, false, List, length, replicate, Ok, Err, vec_items, Result}
+use Rattle.std.specs.Prelude.{◌≡◌, ℕ, List, Ok, Err, Result}
 use Rattle.terms.specs.declared.refusal.Refusal.{Refusal}
 use Rattle.terms.specs.declared.refusal.Refusal.TheVariants.{NoMemory}
-use Rattle.meaning.specs.Meaning.{Meaning, qubits}
-use Rattle.rules.specs.declared.answers.Status.TheVariants.{Erased, Done}
+use Rattle.rules.specs.Reports.{report}
+use Rattle.rules.specs.States.{opening}
 use Rattle.rules.specs.Tallies as rules
-use Rattle.upkeep.specs.Changed.{changed, marked}
-use Rattle.upkeep.specs.Counts.{counts_in}
-use Rattle.upkeep.specs.Statuses.{erased_of}
+use Rattle.table.specs.OfTable.{meaning_of}
 use Rattle.table.specs.declared.Table.{Table}
-use Rattle.trial.specs.declared.trial.opening.Beginning.{Beginning}
+use Rattle.trial.specs.declared.trial.Trial.{Trial}
 use Rattle.trial.specs.declared.trial.opening.Opened.{Opened}
 use Rattle.trial.specs.Model.{model}
 
@@ -30,10 +28,7 @@ abbrev pub OpenedOn : Table → Result Opened Refusal → Type 0
 OpenedOn t (Ok o) = o.trial.table.now ≡ t
 OpenedOn t (Err e) = Unit {0}
 
--- the tables of a trial as it is opened
-pub record Begins (M : Meaning) (lost odds : List ℕ) (b : Beginning) : Type 0 where
-  pub erases : vec_items b.status ≡ changed Done (λ _. Erased) lost (replicate (qubits M) Done)
-  pub unflipped : vec_items b.flipped ≡ replicate (qubits M) false
-  pub unclosed : vec_items b.closed ≡ replicate (length M.checks) false
-  pub marks : vec_items b.odd ≡ marked odds (replicate (length M.checks) false)
-  pub counts : vec_items b.held ≡ counts_in M.checks (erased_of (vec_items b.status))
+-- a trial as it is opened on a table, but for its number
+pub record Begins (t : Table) (lost odds : List ℕ) (b : Trial) : Type 0 where
+  pub on_table : b.table.now ≡ t
+  pub begins : model b ≡ opening (meaning_of t) (report (meaning_of t) lost odds) 0

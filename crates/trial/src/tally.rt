@@ -5,7 +5,7 @@ mod calls;
 mod reading;
 
 /// The counts of a tally. The trials that are neither solved, nor found to fit nothing, nor unfinished are not closed yet: their slips are out.
-#[derive(Clone, Copy, PartialEq, Eq, Debug)]
+#[derive(Clone, Copy, PartialEq, Eq, Default, Debug)]
 pub struct Counts {
     pub opened: u32,
     pub solved: u32,

@@ -10,6 +10,7 @@ use rules::answers::Status;
 use table::Table;
 
 pub mod closing;
+mod erasing;
 mod finishing;
 pub mod opening;
 mod peeling;
@@ -17,6 +18,7 @@ mod pruning;
 pub mod viewing;
 
 /// A trial on the code of a table. All its memory is taken when it is opened; no later call allocates.
+// Kept: one list for each, since `View` lends them as plain slices, and each rule of a call reads or changes one of them alone.
 #[derive(Drop)]
 pub struct Trial<'t> {
     table: &'t Table,

@@ -1,25 +1,24 @@
-use Rattle.std.proofs.Common.{◌+◌, true, false, not, ◌||◌, take, drop, sym, ap, ◌∙◌, arith, eq-eqb, ne_eqb}
+use Rattle.std.proofs.Common.{◌≡◌, ℕ, ◌≤◌, Bool, cond, not, eqb, List, length, take, Some, None, sym, refl, ap, ◌∙◌, rules}
+use Rattle.std.proofs.lemmas.Bool.{le-ltb}
+use Rattle.std.proofs.lemmas.List.Recursion.{or_is}
+use Rattle.terms.specs.Answering.{checked}
+use Rattle.terms.specs.declared.refusal.Refusal.TheVariants.{BufferTooShort, ScratchNotZero}
 use Rattle.rules.specs.Refusing.{some_nonzero}
-use Rattle.marks.proofs.Restored.{nonzero_more, nonzero_all, long_enough}
+use Rattle.marks.specs.Marks.{scratch_fault}
 use Rattle.marks.proofs.scratch_fault.Goals as goal
 
-pub returns-then-scratch-k-ne0 : goal.returns-then-scratch-k-ne0
-returns-then-scratch-k-ne0 c =
-    let bytes = c.args.scratch.now in
-    let n = c.args.qubits in
-    let k = c.loop-k.k in
-    long_enough n bytes true (omega arith)
-    (sym c.loop-k.invariant ∙ nonzero_more n bytes k c.loop-k-test.true (omega arith) ∙ ap (λ t. not t || some_nonzero (drop (k + 1) (take n bytes))) (ne_eqb _ 0 c.if-scratch-k-ne0.true))
+-- the fault of bytes that are long enough
+long_enough : (n : ℕ) (bytes used : List ℕ) (b : Bool) → n ≤ length bytes → used ≡ take n bytes → b ≡ some_nonzero used → checked (cond b (Some ScratchNotZero) None) ≡ checked (scratch_fault n bytes)
+long_enough n bytes used b h e f =
+    ap (λ t. checked (cond t (Some ScratchNotZero) None)) (f ∙ ap some_nonzero e)
+    ∙ ap (λ t. checked (cond t (Some BufferTooShort) (cond (some_nonzero (take n bytes)) (Some ScratchNotZero) None))) (sym (le-ltb (length bytes) n h))
 
-pub loop-k-preserved : goal.loop-k-preserved
-loop-k-preserved c =
-    let bytes = c.args.scratch.now in
-    let n = c.args.qubits in
-    let k = c.loop-k.k in
-    ap (λ t. not t || some_nonzero (drop (k + 1) (take n bytes))) (sym (eq-eqb _ 0 c.if-scratch-k-ne0.false)) ∙ sym (nonzero_more n bytes k c.loop-k-test.true (omega arith)) ∙ c.loop-k.invariant
+pub returns-then-any : goal.returns-then-any
+returns-then-any c =
+    let found = or_is some_nonzero (λ b. not (eqb b 0)) refl (λ _ _. refl) c.in-Some.used.now 0 c.any.result (search rules) (search rules) in
+    long_enough c.args.qubits c.args.scratch.now c.in-Some.used.now _ (search rules) (search rules) (sym c.if-any.true ∙ found)
 
 pub returns : goal.returns
 returns c =
-    let bytes = c.args.scratch.now in
-    let n = c.args.qubits in
-    long_enough n bytes false (omega arith) (sym c.loop-k.invariant ∙ nonzero_all n bytes c.loop-k.k c.loop-k-test.false)
+    let found = or_is some_nonzero (λ b. not (eqb b 0)) refl (λ _ _. refl) c.in-Some.used.now 0 c.any.result (search rules) (search rules) in
+    long_enough c.args.qubits c.args.scratch.now c.in-Some.used.now _ (search rules) (search rules) (sym c.if-any.false ∙ found)

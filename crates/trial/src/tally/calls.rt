@@ -12,12 +12,7 @@ impl Tally {
         ensures { tally_of result ≡ new_tally }
     {
         Tally {
-            counts: Counts {
-                opened: 0,
-                solved: 0,
-                nothing: 0,
-                unfinished: 0,
-            },
+            counts: Counts::default(),
         }
     }
 

@@ -47,6 +47,7 @@ impl Trial<'_> {
     }
 
     /// What a close says: a void trial fits nothing; else it is unfinished while a qubit is erased or shelved; else an odd check shows that nothing fits.
+    #[tactic(auto, unfolding(crate::specs::Model::model))]
     fn outcome(&self) -> Outcome
         ensures { result ≡ outcome (model self.now) }
     {
@@ -63,12 +64,10 @@ impl Trial<'_> {
     }
 
     /// Writes 1 for a flipped qubit and 0 for another into the first bytes of a buffer, one a qubit; the others keep their values.
+    #[tactic(auto, unfolding(crate::specs::Model::model))]
     pub fn copy_out(&self, buffer: &mut [u8]) -> Result<(), Refusal>
         ensures { (result, buffer.new) ≡ copy_out (meaning_of self.now.table.now) (model self.now) buffer.old }
     {
-        if !write_marks(self.flipped.as_slice(), buffer) {
-            return Err(Refusal::BufferTooShort);
-        }
-        Ok(())
+        write_marks(self.flipped.as_slice(), buffer)
     }
 }

@@ -21,35 +21,15 @@ impl Trial<'_> {
     {
         let q = qubit as usize;
         let checks = self.table.checks_at(qubit);
-        lower_if_erased(self.status[q], checks, self.held.as_mut_slice());
+        let counted = if self.status[q] == Status::Erased {
+            checks
+        } else {
+            &[]
+        };
+        let odd = if flip { checks } else { &[] };
+        lower(counted, self.held.as_mut_slice());
+        turn(odd, self.odd.as_mut_slice());
         self.status[q] = Status::Done;
-        flip_if(flip, q, self.flipped.as_mut_slice());
-        turn_if(flip, checks, self.odd.as_mut_slice());
-    }
-}
-
-/// What was erased and is done counts no more in its checks.
-fn lower_if_erased(status: Status, checks: &[u16], held: &mut [u16])
-    ensures { held.new ≡ (if is_erased status then lowered checks.now held.old else held.old) }
-{
-    if let Status::Erased = status {
-        lower(checks, held);
-    }
-}
-
-fn flip_if(flip: bool, q: usize, flipped: &mut [bool])
-    requires { q < length flipped.old }
-    ensures { flipped.new ≡ (if flip then slice_set flipped.old q (not (has flipped.old q)) else flipped.old) }
-{
-    if flip {
-        flipped[q] = !flipped[q];
-    }
-}
-
-fn turn_if(flip: bool, checks: &[u16], odd: &mut [bool])
-    ensures { odd.new ≡ (if flip then turned checks.now odd.old else odd.old) }
-{
-    if flip {
-        turn(checks, odd);
+        self.flipped[q] ^= flip;
     }
 }

@@ -1,5 +1,6 @@
 //! Peeling a dangling check.
 ghost use Rattle.std.specs.Prelude.{◌≡◌, ◌==◌};
+ghost use Rattle.terms.specs.Answering.{checked};
 ghost use Rattle.rules.specs.Calls.{dangling, peel_bars, peel};
 ghost use Rattle.table.specs.OfTable.{meaning_of};
 ghost use Rattle.upkeep.specs.Fault.{fault};
@@ -17,9 +18,7 @@ impl Trial<'_> {
         ensures does { (result, model self.new) ≡ peel (meaning_of self.old.table.now) (model self.old) slip.now.number check }
         ensures table { self.new.table.now ≡ self.old.table.now }
     {
-        if let Some(refusal) = self.peel_fault(slip, check) {
-            return Err(refusal);
-        }
+        self.peel_fault(slip, check)?;
         let row = self.table.row(Row::Check(check));
         let Some(qubit) = erased_among(row, self.status.as_slice()) else {
             return unreachable();
@@ -30,23 +29,24 @@ impl Trial<'_> {
         Ok(qubit)
     }
 
-    /// Why a peel is refused, if it is.
-    fn peel_fault(&self, slip: &Slip, check: u16) -> Option<Refusal>
-        ensures { result ≡ fault (peel_bars (meaning_of self.now.table.now) (model self.now) slip.now.number check) }
+    /// Whether a peel is refused, and why.
+    #[tactic(auto, unfolding(crate::specs::Model::model))]
+    fn peel_fault(&self, slip: &Slip, check: u16) -> Result<(), Refusal>
+        ensures { result ≡ checked (fault (peel_bars (meaning_of self.now.table.now) (model self.now) slip.now.number check)) }
     {
         if check >= self.table.checks() {
-            return Some(Refusal::CheckTooLarge);
+            return Err(Refusal::CheckTooLarge);
         }
         if self.void {
-            return Some(Refusal::NoSolution);
+            return Err(Refusal::NoSolution);
         }
         if !self.is_dangling(check) {
-            return Some(Refusal::NotDangling);
+            return Err(Refusal::NotDangling);
         }
         if !self.is_shown(slip) {
-            return Some(Refusal::WrongSlip);
+            return Err(Refusal::WrongSlip);
         }
-        None
+        Ok(())
     }
 
     /// Whether a check is dangling: open, with exactly one erased qubit.
@@ -61,6 +61,7 @@ impl Trial<'_> {
     }
 
     /// Whether the slip is the trial's, by its number.
+    #[tactic(auto, unfolding(crate::specs::Model::model))]
     pub(crate) fn is_shown(&self, slip: &Slip) -> bool
         ensures { result ≡ (slip.now.number == (model self.now).number) }
     {

@@ -1,5 +1,6 @@
 //! Pruning a qubit with a list of generators.
 ghost use Rattle.std.specs.Prelude.{◌≡◌, false, length};
+ghost use Rattle.terms.specs.Answering.{checked};
 ghost use Rattle.sets.specs.Sets.{has};
 ghost use Rattle.meaning.specs.Meaning.{qubits};
 ghost use Rattle.rules.specs.Reports.{some_past, product};
@@ -24,40 +25,39 @@ impl Trial<'_> {
         ensures does { (result, model self.new) ≡ prune (meaning_of self.old.table.now) (model self.old) slip.now.number qubit generators.now }
         ensures table { self.new.table.now ≡ self.old.table.now }
     {
-        if let Some(refusal) = self.prune_fault(slip, qubit, generators) {
-            return Err(refusal);
-        }
+        self.prune_fault(slip, qubit, generators)?;
         self.finish(qubit, false);
         self.pruned += 1;
         Ok(())
     }
 
-    /// Why a prune is refused, if it is.
-    fn prune_fault(&self, slip: &Slip, qubit: u16, generators: &[u16]) -> Option<Refusal>
-        ensures { result ≡ fault (prune_bars (meaning_of self.now.table.now) (model self.now) slip.now.number qubit generators.now) }
+    /// Whether a prune is refused, and why.
+    #[tactic(auto, unfolding(crate::specs::Model::model))]
+    fn prune_fault(&self, slip: &Slip, qubit: u16, generators: &[u16]) -> Result<(), Refusal>
+        ensures { result ≡ checked (fault (prune_bars (meaning_of self.now.table.now) (model self.now) slip.now.number qubit generators.now)) }
     {
         if qubit >= self.table.qubits() {
-            return Some(Refusal::QubitTooLarge);
+            return Err(Refusal::QubitTooLarge);
         }
         if some_past(self.table.generators(), generators) {
-            return Some(Refusal::GeneratorTooLarge);
+            return Err(Refusal::GeneratorTooLarge);
         }
         if generators.len() == 0 || generators.len() > 4 {
-            return Some(Refusal::PruneListLength);
+            return Err(Refusal::PruneListLength);
         }
         if self.void {
-            return Some(Refusal::NoSolution);
+            return Err(Refusal::NoSolution);
         }
         if some_outside(self.table, generators, self.status.as_slice()) {
-            return Some(Refusal::GeneratorNotErased);
+            return Err(Refusal::GeneratorNotErased);
         }
         if !is_named_oddly(self.table, generators, qubit) {
-            return Some(Refusal::EvenlyNamed);
+            return Err(Refusal::EvenlyNamed);
         }
         if !self.is_shown(slip) {
-            return Some(Refusal::WrongSlip);
+            return Err(Refusal::WrongSlip);
         }
-        None
+        Ok(())
     }
 }
 
@@ -67,12 +67,9 @@ fn some_outside(table: &Table, generators: &[u16], status: &[Status]) -> bool
     requires fit { length status.now ≡ qubits (meaning_of table.now) }
     ensures { result ≡ some_outside (meaning_of table.now).generators (erased_of status.now) generators.now }
 {
-    for g in generators {
-        if !all_erased(table.row(Row::Generator(*g)), status) {
-            return true;
-        }
-    }
-    false
+    generators
+        .iter()
+        .any(|g| !all_erased(table.row(Row::Generator(*g)), status))
 }
 
 /// Whether the qubit lies in an odd number of the entries.
@@ -80,9 +77,5 @@ fn is_named_oddly(table: &Table, generators: &[u16], qubit: u16) -> bool
     ensures { result ≡ has (product (meaning_of table.now) generators.now) qubit }
 {
     let holders = table.generators_at(qubit);
-    let mut odd = false;
-    for g in generators {
-        odd = odd != holders.contains(g);
-    }
-    odd
+    generators.iter().filter(|g| holders.contains(*g)).count() % 2 == 1
 }

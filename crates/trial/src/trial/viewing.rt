@@ -22,6 +22,7 @@ pub struct View<'a> {
 
 impl Trial<'_> {
     /// The trial as it stands.
+    #[tactic(auto, unfolding(crate::specs::Model::model))]
     pub fn view(&self) -> View<'_>
         ensures { viewed result ≡ model self.now }
     {

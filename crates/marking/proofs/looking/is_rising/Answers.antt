@@ -1,29 +1,30 @@
-use Rattle.std.proofs.Common.{ℕ, ◌+◌, ◌-◌, ◌&&◌, List, length, get_or, take, drop, sym, ap, ◌∙◌, arith, ltb-false}
-use Rattle.std.proofs.lemmas.List.{at_drop_more, at_drop_all, take_rest}
-use Rattle.std.proofs.lemmas.Bool.{lt-ltb, le-ltb}
+use Rattle.std.proofs.Common.{◌≡◌, ℕ, zero, suc, ◌<◌, Bool, true, false, ltb, List, [], ◌∷◌, length, get_or, sym, refl, arith, rules, tests}
+use native.Mathlib.Numerals.{unary_clauses}
+use Rattle.std.specs.List.{IsAllAdjacentAnswer}
+use Rattle.std.proofs.lemmas.List.Sorted.{answers_always}
+use Rattle.sets.proofs.Bits.{and_both, and_pair, clash}
 use Rattle.rules.specs.Reports.{rises, rises_from}
 use Rattle.marking.proofs.looking.is_rising.Goals as goal
 
--- the list without its first number
-abbrev rest : List ℕ → List ℕ
-rest list = take (length list - 1) (drop 1 list)
+all_rise : (a : ℕ) (l : List ℕ) → ((k : ℕ) → k < length l → ltb (get_or (a ∷ l) k 0) (get_or l k 0) ≡ true) → rises_from a l ≡ true
+all_rise a [] h = refl
+all_rise a (b ∷ l) h = and_pair (h 0 (omega arith)) (all_rise b l (λ k lt. h (suc k) (omega arith)))
 
-pub returns-then-k-last : goal.returns-then-k-last
-returns-then-k-last c =
-    let i = c.loop-k.k-index in
-    let l = rest c.args.list.now in
-    sym (ap (λ t. t && rises_from (get_or l i 0) (drop (i + 1) l)) (le-ltb _ _ c.if-k-last.true)) ∙ sym (at_drop_more (rises_from c.loop-k.last) l i 0 c.loop-k-test.true) ∙ c.loop-k.invariant
+rises_at : (a : ℕ) (l : List ℕ) → rises_from a l ≡ true → (k : ℕ) → k < length l → ltb (get_or (a ∷ l) k 0) (get_or l k 0) ≡ true
+rises_at a [] e k lt = absurd (omega arith)
+rises_at a (b ∷ l) e zero lt = (and_both (ltb a b) (rises_from b l) e).0
+rises_at a (b ∷ l) e (suc k) lt = rises_at b l (and_both (ltb a b) (rises_from b l) e).1 k (omega arith)
 
-pub loop-k-init : goal.loop-k-init
-loop-k-init c =
-    let list = c.args.list.now in
-    ap (rises_from (get_or list 0 0)) (take_rest list 1) ∙ sym (at_drop_more rises list 0 0 (omega (arith, ltb-false)))
-
-pub loop-k-preserved : goal.loop-k-preserved
-loop-k-preserved c =
-    let i = c.loop-k.k-index in
-    let l = rest c.args.list.now in
-    sym (ap (λ t. t && rises_from (get_or l i 0) (drop (i + 1) l)) (lt-ltb _ _ c.if-k-last.false)) ∙ sym (at_drop_more (rises_from c.loop-k.last) l i 0 c.loop-k-test.true) ∙ c.loop-k.invariant
+-- what the library says of neighbours, said of the list
+rises_is : (list : List ℕ) (r : Bool) → IsAllAdjacentAnswer (λ x y b. b ≡ ltb x y) list r → r ≡ rises list
+rises_is [] true h = refl
+rises_is [] false h = absurd (omega (arith, h.1))
+rises_is (a ∷ l) true h = sym (all_rise a l (λ k lt. simp unary_clauses at (sym (h k 0 (omega arith)))))
+rises_is (a ∷ l) false h = go (rises_from a l) refl
+  where
+    go : (t : Bool) → rises_from a l ≡ t → false ≡ t
+    go true e = absurd (clash (rises_at a l e h.0 (omega (arith, h.1))) (simp unary_clauses at (sym (h.2 0))))
+    go false e = refl
 
 pub returns : goal.returns
-returns c = sym (at_drop_all (rises_from c.loop-k.last) (rest c.args.list.now) c.loop-k.k-index (omega arith)) ∙ c.loop-k.invariant
+returns c = rises_is c.args.list.now _ (c.is_sorted_by.ensures.cases ltb (answers_always _ _ _ (λ f a r g h. search (rules, tests))))

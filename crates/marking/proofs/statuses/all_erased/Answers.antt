@@ -1,22 +1,9 @@
-use Rattle.std.proofs.Common.{◌+◌, ◌&&◌, drop, sym, ap, ◌∙◌, arith}
-use Rattle.std.proofs.lemmas.List.{at_drop_more, at_drop_all}
+use Rattle.std.proofs.Common.{refl, rules}
+use Rattle.std.proofs.lemmas.List.Recursion.{and_is}
+use Rattle.sets.specs.Sets.{has}
 use Rattle.upkeep.specs.Rows.{all_in}
 use Rattle.upkeep.specs.Statuses.{erased_of}
 use Rattle.marking.proofs.statuses.all_erased.Goals as goal
 
-pub returns-then-not-is_erased : goal.returns-then-not-is_erased
-returns-then-not-is_erased c =
-    let i = c.loop-q.q-index in
-    let row = c.args.row.now in
-    let m = erased_of c.args.status.now in
-    ap (λ t. t && all_in m (drop (i + 1) row)) c.if-not-is_erased.ensures ∙ sym (at_drop_more (all_in m) row i 0 c.loop-q-test.true) ∙ c.loop-q.invariant
-
-pub loop-q-preserved : goal.loop-q-preserved
-loop-q-preserved c =
-    let i = c.loop-q.q-index in
-    let row = c.args.row.now in
-    let m = erased_of c.args.status.now in
-    ap (λ t. t && all_in m (drop (i + 1) row)) c.if-not-is_erased.ensures ∙ sym (at_drop_more (all_in m) row i 0 c.loop-q-test.true) ∙ c.loop-q.invariant
-
 pub returns : goal.returns
-returns c = sym (at_drop_all (all_in (erased_of c.args.status.now)) c.args.row.now c.loop-q.q-index (omega arith)) ∙ c.loop-q.invariant
+returns c = let m = erased_of c.args.status.now in and_is (all_in m) (has m) refl (λ _ _. refl) c.args.row.now 0 _ (search rules) (search rules)

@@ -1,22 +1,22 @@
-use Rattle.std.proofs.Common.{◌+◌, cond, get_or, drop, Some, sym, ap, ◌∙◌, arith}
-use Rattle.std.proofs.lemmas.List.{at_drop_more, at_drop_all}
+use Rattle.std.proofs.Common.{◌≡◌, ℕ, cond, Some, None, Option, refl, ◌∙◌, rules, tests}
+use Rattle.std.specs.List.{find}
+use Rattle.std.specs.Option.{option_map}
+use Rattle.std.proofs.lemmas.Iterator.{YieldsList-from_slice}
+use Rattle.std.proofs.lemmas.Iterator.Consumers.{YieldsList-from_copied}
+use Rattle.std.proofs.lemmas.Iterator.Search.{find_from_yields_List}
+use Rattle.std.proofs.lemmas.List.Recursion.{same_from_clauses}
+use Rattle.sets.specs.Sets.{has}
 use Rattle.upkeep.specs.Rows.{first_in}
 use Rattle.upkeep.specs.Statuses.{erased_of}
 use Rattle.marking.proofs.statuses.erased_among.Goals as goal
 
-pub returns-then-is_erased : goal.returns-then-is_erased
-returns-then-is_erased c =
-    let i = c.loop-q.q-index in
-    let row = c.args.row.now in
-    let m = erased_of c.args.status.now in
-    ap (λ t. cond t (Some (get_or row i 0)) (first_in m (drop (i + 1) row))) c.if-is_erased.ensures ∙ sym (at_drop_more (first_in m) row i 0 c.loop-q-test.true) ∙ c.loop-q.invariant
-
-pub loop-q-preserved : goal.loop-q-preserved
-loop-q-preserved c =
-    let i = c.loop-q.q-index in
-    let row = c.args.row.now in
-    let m = erased_of c.args.status.now in
-    ap (λ t. cond t (Some (get_or row i 0)) (first_in m (drop (i + 1) row))) c.if-is_erased.ensures ∙ sym (at_drop_more (first_in m) row i 0 c.loop-q-test.true) ∙ c.loop-q.invariant
+unmapped : (o : Option ℕ) → o ≡ option_map (λ x. x) o
+unmapped None = refl
+unmapped (Some x) = refl
 
 pub returns : goal.returns
-returns c = sym (at_drop_all (first_in (erased_of c.args.status.now)) c.args.row.now c.loop-q.q-index (omega arith)) ∙ c.loop-q.invariant
+returns c =
+    let m = erased_of c.args.status.now in
+    let row = c.args.row.now in
+    unmapped _ ∙ find_from_yields_List (has m) _ _ _ c.find.ensures.ran (YieldsList-from_copied (YieldsList-from_slice row cc)) (λ x b q k. search (rules, tests))
+    ∙ same_from_clauses (find (has m)) (first_in m) (λ q r. cond (has m q) (Some q) r) refl (λ _ _. refl) (λ _ _. refl) row

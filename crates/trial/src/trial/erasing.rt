@@ -1,0 +1,70 @@
+//! The qubits that a trial begins with.
+ghost use Rattle.std.specs.Prelude.{◌≡◌, ◌<◌, false, length, replicate, IfOk, slice_set};
+ghost use Rattle.meaning.specs.Meaning.{qubits};
+ghost use Rattle.rules.specs.declared.answers.Status.TheVariants.{Erased, Done};
+ghost use Rattle.rules.specs.Reports.{some_past};
+ghost use Rattle.table.specs.OfTable.{meaning_of};
+ghost use Rattle.upkeep.specs.Changed.{changed};
+ghost use Rattle.upkeep.specs.Counts.{counts_in};
+ghost use Rattle.upkeep.specs.Statuses.{erased_of};
+
+use marking::changing::raise;
+use marking::statuses::is_erased;
+use rules::answers::Status;
+use std::alloc::{AllocError, Global};
+use table::Table;
+
+/// The status of each qubit, and for each check, how many erased qubits it holds.
+#[derive(Drop)]
+pub(crate) struct Erasures<'t> {
+    table: &'t Table,
+    pub(crate) status: Vec<Status>,
+    pub(crate) held: Vec<u16>,
+    ghost fit: { length status.items ≡ qubits (meaning_of table.now) },
+    ghost counts: { held.items ≡ counts_in (meaning_of table.now).checks (erased_of status.items) },
+}
+
+impl<'t> Erasures<'t> {
+    /// The lost qubits are erased, and no others.
+    pub(crate) fn of(
+        heap: Global,
+        table: &'t Table,
+        lost: &[u16],
+    ) -> Result<Erasures<'t>, AllocError>
+        requires { some_past (qubits (meaning_of table.now)) lost.now ≡ false }
+        ensures { IfOk result (λ e. (e.table.now ≡ table.now) × (e.status.items ≡ changed Done (λ _. Erased) lost.now (replicate (qubits (meaning_of table.now)) Done))) }
+    {
+        let mut erasures = Erasures::none(heap, table)?;
+        for q in lost {
+            erasures.erase(*q);
+        }
+        Ok(erasures)
+    }
+
+    fn none(heap: Global, table: &'t Table) -> Result<Erasures<'t>, AllocError>
+        ensures { IfOk result (λ e. (e.table.now ≡ table.now) × (e.status.items ≡ replicate (qubits (meaning_of table.now)) Done)) }
+    {
+        let status = vec![in heap; Status::Done; table.qubits() as usize]?;
+        let held = vec![in heap; 0u16; table.checks() as usize]?;
+        Ok(Erasures {
+            table,
+            status,
+            held,
+        })
+    }
+}
+
+impl Erasures<'_> {
+    /// A qubit is erased, and counts in its checks from then on.
+    fn erase(&mut self, qubit: u16)
+        requires { qubit < length self.old.status.items }
+        ensures erases { self.new.status.items ≡ slice_set self.old.status.items qubit Erased }
+        ensures table { self.new.table.now ≡ self.old.table.now }
+    {
+        if is_erased(qubit, self.status.as_slice()) {
+            return;
+        }
+        self.status[qubit as usize] = Status::Erased;
+        raise(self.table.checks_at(qubit), self.held.as_mut_slice());
+    }
+}

@@ -1,6 +1,7 @@
 -- A check more.
-use Rattle.std.proofs.Common.{◌≡◌, ℕ, suc, Bool, true, false, ◌↔◌, List, [], ◌∷◌, ◌++◌, map, length, get_or, take, drop, replicate, sym, refl, ap, ◌∙◌, subst, arith}
+use Rattle.std.proofs.Common.{◌||◌, ◌≡◌, ℕ, suc, Bool, true, false, ◌↔◌, List, [], ◌∷◌, ◌++◌, map, length, get_or, take, drop, replicate, sym, refl, ap, ◌∙◌, subst, arith}
 use mathlib.Core.Option.{Option, none, some}
+use denote.Enum.Bare.{sameb}
 use lib.ListN.{length-replicate}
 use Rattle.linear.specs.Field.{Field}
 use Rattle.linear.specs.Basis.{Basis, Insertion, grown, known, clash, dot, insert}
@@ -12,6 +13,7 @@ use Rattle.elimination.specs.Holds.{Zeros, Found, Stands}
 use Rattle.elimination.specs.Calls.{check}
 use Rattle.elimination.specs.declared.echelon.Added.{Added}
 use Rattle.elimination.specs.declared.echelon.Added.TheVariants.{Grown, Known, Clash}
+use Rattle.elimination.specs.contracts.echelon.Added.{the_type}
 use Rattle.elimination.proofs.Lists.{rev_replicate}
 use Rattle.elimination.proofs.Nulls.{null_grown, null_known, null_clash}
 
@@ -29,10 +31,13 @@ flagged Grown b = b
 flagged Known b = b
 flagged Clash b = true
 
-pub flagged_not : (o : Added) (b : Bool) → (o ≡ Clash → ⊥) → flagged o b ≡ b
-flagged_not Grown b h = refl
-flagged_not Known b h = refl
-flagged_not Clash b h = absurd (h refl)
+pub flagged_or : (o : Added) (b : Bool) → flagged o b ≡ (b || sameb the_type o Clash)
+flagged_or Grown true = refl
+flagged_or Grown false = refl
+flagged_or Known true = refl
+flagged_or Known false = refl
+flagged_or Clash true = refl
+flagged_or Clash false = refl
 
 module _ {F : Type 0} (K : Field F) where
   open K use {zer}

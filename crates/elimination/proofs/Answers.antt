@@ -78,11 +78,11 @@ module _ {F : Type 0} (K : Field F) where
     at_end false e = depends (subst (Tells K B (rev written)) (sym e ∙ wrap_clash K (rows_of (suc n) n t) n) (insert_tells K B (rev written) zer))
 
     -- the row as it is read: its right side is zero
-    pub independent : (T r₀ r' : List F) (j : ℕ) → T ≡ t → n * (n + 1) ≤ length t → r₀ ≡ zer ∷ rev written → length r' ≡ n + 1 → Reduced K n T r₀ j r' → (j < n → Independent K n rows written true) × (n ≤ j → Independent K n rows written false)
-    independent T r₀ r' j te l re k d = (grew, ended')
+    pub independent : (r₀ r' : List F) (j : ℕ) → n * (n + 1) ≤ length t → r₀ ≡ zer ∷ rev written → length r' ≡ n + 1 → Reduced K n t r₀ j r' → (j < n → Independent K n rows written true) × (n ≤ j → Independent K n rows written false)
+    independent r₀ r' j l re k d = (grew, ended')
       where
         d' : Reduced K n t (zer ∷ rev written) j r'
-        d' = subst (λ q. Reduced K n t q j r') re (subst (λ q. Reduced K n q r₀ j r') te d)
+        d' = subst (λ q. Reduced K n t q j r') re d
 
         grew : j < n → Independent K n rows written true
         grew h = by_outcome (insert K B (rev written) zer) (insert_tells K B (rev written) zer) _ (sym (grows K n t j l h (zer ∷ rev written) r' k d'))

@@ -45,10 +45,13 @@ module _ {F : Type 0} (K : Field F) where
     λ h. let z = h.0 in let e : length xs ≡ n = omega arith in (null_empty n xs).1 (e, tt),
   )
 
-  -- a system with no checks, in a table whose front is clear and a row whose front is clear
-  pub begins : (n : ℕ) (t r Q : List F) → t ≡ replicate (n * (n + 1)) zer ++ Q → take (suc n) r ≡ replicate (suc n) zer → Stands K n [] (replicate n zer) false t r
-  begins n t r Q te re =
-      let b : basis_of K n t ≡ empty n = ap (basis_of K n) te ∙ ap (λ s. stack K 0 (rows_of (suc n) n (replicate (n * s) zer ++ Q))) (add-one n) ∙ stack_clear (suc n) n 0 Q in
+  -- a table whose front is clear
+  pub clear_empty : (n : ℕ) (t Q : List F) → t ≡ replicate (n * (n + 1)) zer ++ Q → basis_of K n t ≡ empty n
+  clear_empty n t Q te = ap (basis_of K n) te ∙ ap (λ s. stack K 0 (rows_of (suc n) n (replicate (n * s) zer ++ Q))) (add-one n) ∙ stack_clear (suc n) n 0 Q
+
+  -- a system with no checks, in a table with no row, and a row whose front is clear
+  pub begins : (n : ℕ) (t r : List F) → basis_of K n t ≡ empty n → take (suc n) r ≡ replicate (suc n) zer → Stands K n [] (replicate n zer) false t r
+  begins n t r b re =
       record {
         wide = tt;
         long = length-replicate n zer;

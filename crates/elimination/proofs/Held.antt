@@ -1,9 +1,9 @@
 -- What a call leaves, from what its parts were lent and gave back. The unknowns u that the elimination keeps are the system's n.
-use Rattle.std.proofs.Common.{◌≡◌, ℕ, suc, ◌+◌, ◌-◌, ◌*◌, ◌<◌, ◌≤◌, Bool, true, false, ltb, List, [], ◌∷◌, ◌++◌, reverse, length, get_or, take, set, replicate, sym, refl, ap, ◌∙◌, subst, ap₂, mul-le-mul_right, mul-le-mul_left, arith, length-set, ltb-false, ltb-true}
+use Rattle.std.proofs.Common.{IfSome, is_some, unwrap_or, Option, Some, None, ◌≡◌, ℕ, suc, ◌+◌, ◌-◌, ◌*◌, ◌<◌, ◌≤◌, Bool, true, false, List, [], ◌∷◌, ◌++◌, reverse, length, get_or, take, set, replicate, sym, refl, ap, ◌∙◌, subst, ap₂, mul-le-mul_right, mul-le-mul_left, arith, length-set}
 use lib.ListN.{length-replicate}
 use Rattle.std.proofs.lemmas.List.{take_at, length-take-le}
 use Rattle.linear.specs.Field.{Field}
-use Rattle.linear.specs.Basis.{least}
+use Rattle.linear.specs.Basis.{empty, least}
 use Rattle.linear.specs.System.{Row, rev, solutions}
 use Rattle.linear.proofs.System.{length_rev}
 use Rattle.elimination.specs.Table.{basis_of, Reduced}
@@ -11,6 +11,7 @@ use Rattle.elimination.specs.Inserted.{Inserted}
 use Rattle.elimination.specs.Holds.{Stands}
 use Rattle.elimination.specs.Calls.{check, more, First, Independent}
 use Rattle.elimination.specs.declared.echelon.Added.{Added}
+use Rattle.elimination.specs.declared.echelon.Echelon.{Echelon}
 use Rattle.elimination.proofs.Lists.{rev_replicate, put_rev}
 use Rattle.elimination.proofs.Begins.{begins}
 use Rattle.elimination.proofs.Adds.{flagged, adds}
@@ -21,6 +22,10 @@ square u h =
     let a : u + 1 ≤ 257 = omega arith in
     omega (arith, mul-le-mul_right (u + 1) h, mul-le-mul_left 256 a)
 
+-- the rows of a table lie within its memory
+pub room_of : {F : Type 0} (e : Echelon F) → e.width * (e.width + 1) ≤ length e.cells.items
+room_of e = omega (arith, square e.width e.few, e.room, e.cells.ok.0)
+
 module _ {F : Type 0} (K : Field F) where
   open K use {zer, add}
 
@@ -30,17 +35,13 @@ module _ {F : Type 0} (K : Field F) where
       let q : length L ≡ k = omega arith in
       ap (take k) re ∙ take_at S Q k (ap length se ∙ length-replicate (length L) zer ∙ q) ∙ se ∙ ap (λ i. replicate i zer) q
 
-  pub begun : (n : ℕ) (t r T S P Q t' r' : List F) → n ≤ 256 → length t ≡ 65792 → length r ≡ 257 → T ≡ t → S ≡ r
-      → P ≡ replicate (length (take (n * (n + 1) - 0) T)) zer → Q ≡ replicate (length (take ((n + 1) - 0) S)) zer
-      → (A B : List F) → t' ≡ P ++ A → r' ≡ Q ++ B → Stands K n [] (replicate n zer) false t' r'
-  begun n t r T S P Q t' r' few tl rl Te Se pe qe A B te re =
-      let sq : n * (n + 1) ≤ length T = omega (arith, square n few, ap length Te) in
-      let a : n * (n + 1) - 0 ≡ n * (n + 1) = omega arith in
+  pub begun : (n : ℕ) (t' S Q r' : List F) → n ≤ 256 → length S ≡ 257 → basis_of K n t' ≡ empty n
+      → Q ≡ replicate (length (take ((n + 1) - 0) S)) zer → (B : List F) → r' ≡ Q ++ B → Stands K n [] (replicate n zer) false t' r'
+  begun n t' S Q r' few sl be qe B re =
       let b : (n + 1) - 0 ≡ suc n = omega arith in
-      let c : suc n ≤ length S = omega (arith, ap length Se) in
-      let la : length (take (n * (n + 1) - 0) T) ≡ n * (n + 1) = ap (λ k. length (take k T)) a ∙ length-take-le (n * (n + 1)) T sq in
+      let c : suc n ≤ length S = omega arith in
       let lb : length (take ((n + 1) - 0) S) ≡ suc n = ap (λ k. length (take k S)) b ∙ length-take-le (suc n) S c in
-      begins K n t' r' A (te ∙ ap (λ p. p ++ A) (pe ∙ ap (λ k. replicate k zer) la)) (front_clear (suc n) (suc n) r' Q B (take ((n + 1) - 0) S) re qe lb refl)
+      begins K n t' r' be (front_clear (suc n) (suc n) r' Q B (take ((n + 1) - 0) S) re qe lb refl)
 
   -- the row that is read
   read : (u n : ℕ) (written r D : List F) → u ≡ n → D ≡ r → take (suc n) r ≡ zer ∷ rev written → take ((u + 1) - 0) D ≡ zer ∷ rev written
@@ -50,13 +51,13 @@ module _ {F : Type 0} (K : Field F) where
     long_row : length (zer ∷ rev written) ≡ suc n
     long_row = ap suc (length_rev K written ∙ s.long)
 
-    pub put_held : (p : ℕ) (x v coefficient : F) → p < u → u ≤ 256 → length r ≡ 257 → x ≡ get_or r (u - p) x → v ≡ add x coefficient
-        → Stands K n rows (more K written p coefficient) c t (set r (u - p) v)
-    put_held p x v coefficient h few rl xe ve =
+    pub put_held : (p q : ℕ) (x v coefficient : F) → q ≡ p → q < u → u ≤ 256 → length r ≡ 257 → x ≡ get_or r (u - q) x → v ≡ add x coefficient
+        → Stands K n rows (more K written p coefficient) c t (set r (u - q) v)
+    put_held p q₀ x v coefficient qe h few rl xe ve =
         let h' : p < n = omega arith in
-        let m : u - p ≡ n - p = omega arith in
+        let m : u - q₀ ≡ n - p = omega arith in
         let l : suc n ≤ length r = omega arith in
-        let q = put_rev n p (u - p) r written zer zer x v s.long h' m s.row xe l in
+        let q = put_rev n p (u - q₀) r written zer zer x v s.long h' m s.row xe l in
         record {
           wide = s.wide;
           long = length-set written p (add (get_or written p zer) coefficient) ∙ s.long;
@@ -65,15 +66,14 @@ module _ {F : Type 0} (K : Field F) where
           nulls = s.nulls;
         }
 
-    pub added : (right : F) (o : Added) (b : Bool) (D T t' t'' r' R S Q : List F) → flagged o c ≡ b → t'' ≡ t' → D ≡ r → T ≡ t → Inserted K u T (set (take ((u + 1) - 0) D) 0 right) o t'
+    pub added : (right : F) (o : Added) (b : Bool) (D t' r' R S Q : List F) → flagged o c ≡ b → D ≡ r → Inserted K u t (set (take ((u + 1) - 0) D) 0 right) o t'
         → length R ≡ length (set (take ((u + 1) - 0) D) 0 right) → S ≡ replicate (length R) zer → r' ≡ S ++ Q
-        → Stands K n (rows ++ check written right ∷ []) (replicate n zer) b t'' r'
-    added right o b D T t' t'' r' R S Q fe t''e de te i le se re =
+        → Stands K n (rows ++ check written right ∷ []) (replicate n zer) b t' r'
+    added right o b D t' r' R S Q fe de i le se re =
         let q : set (take ((u + 1) - 0) D) 0 right ≡ right ∷ rev written = ap (λ l. set l 0 right) (read u n written r D e de s.row) in
-        let i' : Inserted K n t (set (take ((u + 1) - 0) D) 0 right) o t' = subst (λ (l : List F). Inserted K n l (set (take ((u + 1) - 0) D) 0 right) o t') te (subst (λ (m : ℕ). Inserted K m T (set (take ((u + 1) - 0) D) 0 right) o t') e i) in
-        subst (λ (l : List F). Stands K n (rows ++ check written right ∷ []) (replicate n zer) b l r') (sym t''e)
-        (subst (λ (f : Bool). Stands K n (rows ++ check written right ∷ []) (replicate n zer) f t' r') fe
-        (adds K n rows written c t r right o (set (take ((u + 1) - 0) D) 0 right) t' r' s q i' (front_clear (suc n) (suc n) r' S Q R re se (le ∙ ap length q ∙ long_row) refl)))
+        let i' : Inserted K n t (set (take ((u + 1) - 0) D) 0 right) o t' = subst (λ (m : ℕ). Inserted K m t (set (take ((u + 1) - 0) D) 0 right) o t') e i in
+        subst (λ (f : Bool). Stands K n (rows ++ check written right ∷ []) (replicate n zer) f t' r') fe
+        (adds K n rows written c t r right o (set (take ((u + 1) - 0) D) 0 right) t' r' s q i' (front_clear (suc n) (suc n) r' S Q R re se (le ∙ ap length q ∙ long_row) refl))
 
     -- the table as it was, and a cleared row
     cleared : (r' S Q R : List F) → length R ≡ suc n → S ≡ replicate (length R) zer → r' ≡ S ++ Q → Stands K n rows (replicate n zer) c t r'
@@ -86,9 +86,10 @@ module _ {F : Type 0} (K : Field F) where
           nulls = s.nulls;
         }
 
-    pub tried : (j : ℕ) (D T r' R S Q : List F) → u ≤ 256 → length t ≡ 65792 → D ≡ r → T ≡ t → Reduced K u T (take ((u + 1) - 0) D) j R → length R ≡ length (take ((u + 1) - 0) D) → S ≡ replicate (length R) zer → r' ≡ S ++ Q
-        → Stands K n rows (replicate n zer) c t r' × Independent K n rows written (ltb j u)
-    tried j D T r' R S Q few tl de te d le se re = (cleared r' S Q R long se re, subst (λ m. Independent K n rows written (ltb j m)) (sym e) (go (ltb j n) refl))
+    pub tried : (o : Option ℕ) (D r' R S Q : List F) → u * (u + 1) ≤ length t → D ≡ r → IfSome o (λ j. j < u) → Reduced K u t (take ((u + 1) - 0) D) (unwrap_or o u) R
+        → length R ≡ length (take ((u + 1) - 0) D) → S ≡ replicate (length R) zer → r' ≡ S ++ Q
+        → Stands K n rows (replicate n zer) c t r' × Independent K n rows written (is_some o)
+    tried o D r' R S Q room de below d le se re = (cleared r' S Q R long se re, go o below d)
       where
         q : take ((u + 1) - 0) D ≡ zer ∷ rev written
         q = read u n written r D e de s.row
@@ -96,18 +97,17 @@ module _ {F : Type 0} (K : Field F) where
         long : length R ≡ suc n
         long = le ∙ ap length q ∙ long_row
 
-        both : (j < n → Independent K n rows written true) × (n ≤ j → Independent K n rows written false)
-        both =
+        both : (j : ℕ) → Reduced K u t (take ((u + 1) - 0) D) j R → (j < n → Independent K n rows written true) × (n ≤ j → Independent K n rows written false)
+        both j d =
             let k : length R ≡ n + 1 = omega (arith, long) in
-            let small : n ≤ 256 = omega arith in
-            let l : n * (n + 1) ≤ length t = omega (arith, square n small) in
-            independent K n rows written c t r s T (take ((u + 1) - 0) D) R j te l q k (subst (λ (m : ℕ). Reduced K m T (take ((u + 1) - 0) D) j R) e d)
+            let l : n * (n + 1) ≤ length t = subst (λ (m : ℕ). m * (m + 1) ≤ length t) e room in
+            independent K n rows written c t r s (take ((u + 1) - 0) D) R j l q k (subst (λ (m : ℕ). Reduced K m t (take ((u + 1) - 0) D) j R) e d)
 
-        go : (b : Bool) → ltb j n ≡ b → Independent K n rows written b
-        go true f = both.0 (ltb-true j n f)
-        go false f = both.1 (ltb-false j n f)
+        go : (o : Option ℕ) → IfSome o (λ j. j < u) → Reduced K u t (take ((u + 1) - 0) D) (unwrap_or o u) R → Independent K n rows written (is_some o)
+        go (Some j) h d = (both j d).0 (omega (arith, h))
+        go None h d = (both u d).1 (omega arith)
 
-    pub solved : (T y x Q z : List F) → c ≡ false → T ≡ t → y ≡ least K (basis_of K u T) → x ≡ reverse y → length x ≡ u → z ≡ x ++ Q → First true (solutions K (replicate n true) rows) (take u z)
-    solved T y x Q z ce te ye xe l ze =
+    pub solved : (y x Q z : List F) → c ≡ false → y ≡ least K (basis_of K u t) → x ≡ reverse y → length x ≡ u → z ≡ x ++ Q → First true (solutions K (replicate n true) rows) (take u z)
+    solved y x Q z ce ye xe l ze =
         subst (First true (solutions K (replicate n true) rows)) (sym (ap (take u) ze ∙ take_at x Q u l))
-        (first_is K n rows written t r c y x ce s (ye ∙ ap₂ (λ m k. least K (basis_of K m k)) e te) xe)
+        (first_is K n rows written t r c y x ce s (ye ∙ ap (λ m. least K (basis_of K m t)) e) xe)

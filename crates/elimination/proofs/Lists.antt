@@ -1,6 +1,7 @@
 -- Lists turned round, cleared, and written at their front.
 use Rattle.std.proofs.Common.{◌≡◌, ℕ, zero, suc, ◌+◌, ◌-◌, ◌<◌, ◌≤◌, List, [], ◌∷◌, ◌++◌, reverse, length, get_or, take, drop, set, replicate, sym, refl, ap, ◌∙◌, ap₂, arith, length-append}
 use mathlib.Core.List.{reverse-cons}
+use borrow.Rule.Slice.PartMut.{put_mid}
 use lib.Seq.{set-append_seam, set-append_left, take-set-lt}
 use Rattle.std.proofs.lemmas.List.{get_or-take, get_or_read, take-append-drop}
 use Rattle.linear.specs.System.{rev}
@@ -67,3 +68,10 @@ module _ {X : Type 0} where
   -- a part of a list, put back as long as it was
   pub refill : (k : ℕ) (D S : List X) → length S ≡ length (take k D) → length (S ++ drop k D) ≡ length D
   refill k D S e = length-append S (drop k D) ∙ ap (λ m. m + length (drop k D)) e ∙ sym (length-append (take k D) (drop k D)) ∙ ap length (take-append-drop k D)
+
+  pub length_put_mid : (a k : ℕ) (D S : List X) → a ≤ length D → length S ≡ length (take k (drop a D)) → length (put_mid a k D S) ≡ length D
+  length_put_mid a k D S h e =
+      length-append (take a D) (S ++ drop k (drop a D))
+      ∙ ap (λ m. length (take a D) + m) (refill k (drop a D) S e)
+      ∙ sym (length-append (take a D) (drop a D))
+      ∙ ap length (take-append-drop a D)

@@ -2,10 +2,10 @@
 use Rattle.std.proofs.Common.{◌≡◌, ℕ, zero, suc, ◌+◌, ◌-◌, ◌*◌, ◌<◌, ◌≤◌, true, false, List, [], ◌∷◌, ◌++◌, map, length, get_or, take, drop, set, sym, refl, ap, ◌∙◌, subst, ap₂, append-nil, mul-le-mul_right, suc-mul, zero-mul, add-one, arith, length-drop, length-set}
 use lib.ListN.{length-map}
 use borrow.Rule.Slice.PartMut.{put_mid}
-use Rattle.std.proofs.lemmas.List.{drop_all, drop-drop, take_all, take_at, drop_at, take-append-le, drop-append-le, take-take, drop-take, length-take-le, get_or-take, get_or-drop, get_or_read}
+use Rattle.std.proofs.lemmas.List.{drop_all, drop-drop, take_all, take_at, drop_at, take-append-le, drop-append-le, take-take, drop-take, length-take-le, get_or_read}
 use Rattle.linear.specs.Field.{Field}
 use Rattle.linear.specs.Basis.{Basis, grown, under, ended, mix, insert}
-use Rattle.elimination.specs.Table.{rows_of, column, stack, basis_of, wrap, Passed, Reduced}
+use Rattle.elimination.specs.Table.{rows_of, is_free, column, stack, basis_of, wrap, Passed, Reduced}
 use Rattle.elimination.specs.Inserted.{Inserted}
 use Rattle.elimination.specs.declared.echelon.Added.TheVariants.{Grown, Known, Clash}
 use Rattle.elimination.proofs.Stack.{wrap_known, wrap_clash, step_skip, step_add, step_new, stack_at, new_row, length_rows, row_at}
@@ -89,39 +89,22 @@ module _ {F : Type 0} (K : Field F) where
         let k : w + 1 ≤ length (drop (j * (w + 1)) T) = omega (arith, length-drop (j * (w + 1)) T, fits w j h, l) in
         ap length R-is ∙ length-take-le (w + 1) (drop (j * (w + 1)) T) k
 
-    -- an element of the column's row, as it is read from the table
-    pub R-at : (i : ℕ) → i < w + 1 → get_or R i zer ≡ get_or T (j * (w + 1) + i) zer
-    R-at i k = ap (λ q. get_or q i zer) R-is ∙ get_or-take (w + 1) (drop (j * (w + 1)) T) i zer k ∙ get_or-drop (j * (w + 1)) T i zer
-
-    -- its coefficients after the column
-    pub R-tail : (k : ℕ) → k ≡ w - suc j → take k (drop (j * (w + 1) + j + 2) T) ≡ drop (suc (suc j)) R
-    R-tail k q =
-        let e : suc (suc j) + k ≡ w + 1 = omega arith in
-        let f : j * (w + 1) + suc (suc j) ≡ j * (w + 1) + j + 2 = omega arith in
-        sym
-        (ap (drop (suc (suc j))) R-is
-        ∙ ap (λ n. drop (suc (suc j)) (take n (drop (j * (w + 1)) T))) (sym e)
-        ∙ drop-take (suc (suc j)) k (drop (j * (w + 1)) T)
-        ∙ ap (take k) (drop-drop (suc (suc j)) (j * (w + 1)) T ∙ ap (λ n. drop n T) f)
-        )
-
     pub in_rows : j < length (rows_of (suc w) w T)
     in_rows = omega (arith, h, length_rows (suc w) w T)
 
-    -- what is read of the table
-    pub pivot : (x : F) → x ≡ get_or T (j * (w + 1) + j + 1) x → x ≡ get_or R (suc j) zer
-    pivot x e =
-        let k : j * (w + 1) + j + 1 < length T = omega (arith, fits w j h, l) in
-        let i : suc j < w + 1 = omega arith in
-        let q : j * (w + 1) + suc j ≡ j * (w + 1) + j + 1 = omega arith in
-        get_or_read T (j * (w + 1) + j + 1) x k e zer ∙ sym (R-at (suc j) i ∙ ap (λ m. get_or T m zer) q)
+    -- what is read of the column's row, where L is that row
+    module _ (L : List F) (Le : L ≡ R) where
+      pub right_side : (x : F) → x ≡ get_or L 0 x → x ≡ get_or R 0 zer
+      right_side x e =
+          let k : 0 < length L = omega (arith, ap length Le ∙ R-long) in
+          get_or_read L 0 x k e zer ∙ ap (λ t. get_or t 0 zer) Le
 
-    pub right_side : (x : F) → x ≡ get_or T (j * (w + 1)) x → x ≡ get_or R 0 zer
-    right_side x e =
-        let k : j * (w + 1) < length T = omega (arith, fits w j h, l) in
-        let i : 0 < w + 1 = omega arith in
-        let q : j * (w + 1) + 0 ≡ j * (w + 1) = omega arith in
-        get_or_read T (j * (w + 1)) x k e zer ∙ sym (R-at 0 i ∙ ap (λ m. get_or T m zer) q)
+      -- its coefficients after the column
+      pub R-tail : (k : ℕ) → k ≡ w - suc j → take k (drop (j + 2) L) ≡ drop (suc (suc j)) R
+      R-tail k q =
+          let f : j + 2 ≡ suc (suc j) = omega arith in
+          let short : length (drop (j + 2) L) ≤ k = omega (arith, length-drop (j + 2) L, ap length Le ∙ R-long) in
+          take_all k (drop (j + 2) L) short ∙ ap₂ (λ i t. drop i t) f Le
 
     module _ (r₀ r : List F) (n : length r ≡ w + 1) where
       -- what is read of the row
@@ -144,12 +127,12 @@ module _ {F : Type 0} (K : Field F) where
       at_skip c p f s = onward r s (step_skip K j R r C (n ∙ sym R-long) (ap (λ q. is q zer) (sym (coef c p)) ∙ f))
 
       -- v is written first, and S from place j + 2 on
-      pub at_add : (c d k x y v : F) (m p : ℕ) (O P S r' : List F)
-          → c ≡ get_or r (j + 1) c → d ≡ get_or T (j * (w + 1) + j + 1) d → is d zer ≡ false
-          → k ≡ neg c → x ≡ get_or r 0 x → y ≡ get_or T (j * (w + 1)) y → v ≡ add x (mul k y)
-          → m ≡ w - suc j → p ≡ w - suc j → O ≡ take p (drop (j * (w + 1) + j + 2) T) → P ≡ take m (drop (j + 2) (set r 0 v)) → (length P ≡ length O → S ≡ mix K k O P)
+      pub at_add : (L : List F) (c k x y v : F) (m p : ℕ) (O P S r' : List F) → L ≡ R
+          → c ≡ get_or r (j + 1) c → is_free K w T j ≡ false
+          → k ≡ neg c → x ≡ get_or r 0 x → y ≡ get_or L 0 y → v ≡ add x (mul k y)
+          → m ≡ w - suc j → p ≡ w - suc j → O ≡ take p (drop (j + 2) L) → P ≡ take m (drop (j + 2) (set r 0 v)) → (length P ≡ length O → S ≡ mix K k O P)
           → r' ≡ put_mid (j + 2) m (set r 0 v) S → At w T r₀ j r → At w T r₀ (j + 1) r'
-      at_add c d k x y v m p O P S r' ce de dz ke xe ye ve me pe oe Pe se re s =
+      at_add L c k x y v m p O P S r' Le ce dz ke xe ye ve me pe oe Pe se re s =
           let ra : 0 < length r = omega arith in
           let rb : 0 < length (set r 0 v) = omega (arith, length-set r 0 v) in
           let a2 : 0 < j + 2 = omega arith in
@@ -157,24 +140,19 @@ module _ {F : Type 0} (K : Field F) where
           let full : (j + 2) + m ≡ length (set r 0 v) = omega (arith, length-set r 0 v) in
           let short : length (drop (j + 2) (set r 0 v)) ≤ m = omega (arith, length-drop (j + 2) (set r 0 v)) in
           let P-is : P ≡ drop (suc (suc j)) r = Pe ∙ take_all m (drop (j + 2) (set r 0 v)) short ∙ tail_set (j + 2) r v a2 ∙ ap (λ i. drop i r) jj in
-          let O-is : O ≡ drop (suc (suc j)) R = oe ∙ R-tail p pe in
+          let O-is : O ≡ drop (suc (suc j)) R = oe ∙ R-tail L Le p pe in
           let lens : length P ≡ length O = ap length P-is ∙ length-drop (suc (suc j)) r ∙ ap (λ i. i - suc (suc j)) (n ∙ sym R-long) ∙ sym (ap length O-is ∙ length-drop (suc (suc j)) R) in
           let k-is : k ≡ neg (get_or r (suc j) zer) = ke ∙ ap neg (coef c ce) in
           let first : get_or r' 0 zer ≡ add (get_or r 0 zer) (mul (neg (get_or r (suc j) zer)) (get_or R 0 zer)) =
           ap (λ t. get_or t 0 zer) re ∙ first_put (j + 2) m (set r 0 v) S zer a2 rb ∙ first_set r v zer ra ∙ ve
-          ∙ ap₂ (λ u t. add u t) (get_or_read r 0 x ra xe zer) (ap₂ (λ u t. mul u t) k-is (right_side y ye)) in
+          ∙ ap₂ (λ u t. add u t) (get_or_read r 0 x ra xe zer) (ap₂ (λ u t. mul u t) k-is (right_side L Le y ye)) in
           let tail : drop (suc (suc j)) r' ≡ mix K (neg (get_or r (suc j) zer)) (drop (suc (suc j)) R) (drop (suc (suc j)) r) =
           ap₂ (λ i t. drop i t) (sym jj) re ∙ tail_put (j + 2) m (set r 0 v) S full ∙ se lens
           ∙ ap (λ u. mix K u O P) k-is ∙ ap₂ (λ o t. mix K (neg (get_or r (suc j) zer)) o t) O-is P-is in
-          onward r' s (step_add K j R r r' C (ap (λ z. is z zer) (sym (pivot d de)) ∙ dz) first tail)
+          onward r' s (step_add K j R r r' C dz first tail)
 
-      pub stopped : (c d : F) → c ≡ get_or r (j + 1) c → d ≡ get_or T (j * (w + 1) + j + 1) d → is c zer ≡ false → is d zer ≡ true → At w T r₀ j r → Reduced K w T r₀ j r
-      stopped c d ce de cz dz s =
-          record {
-            within = omega arith;
-            passed = s.passed;
-            stops = λ _. (ap (λ q. is q zer) (sym (coef c ce)) ∙ cz, ap (λ z. is z zer) (sym (pivot d de)) ∙ dz);
-          }
+      pub stopped : (c : F) → c ≡ get_or r (j + 1) c → is c zer ≡ false → is_free K w T j ≡ true → At w T r₀ j r → Reduced K w T r₀ j r
+      stopped c ce cz dz s = record { within = omega arith; passed = s.passed; stops = λ _. (ap (λ q. is q zer) (sym (coef c ce)) ∙ cz, dz) }
 
       -- the row, divided by its coefficient
       abbrev N : List F

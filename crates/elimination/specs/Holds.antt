@@ -31,9 +31,13 @@ module _ {F : Type 0} (K : Field F) where
 
   -- the elimination holds the system of these rows over n unknowns, and the check `written` is being written
   pub record Holds (e : Elimination F) (n : ℕ) (rows : List (Row F)) (written : List F) : Type 0 where
-    pub unknowns : e.unknowns ≡ n
-    pub stands : Stands n rows written e.contradicts (vec_items e.table) (vec_items e.row)
+    pub unknowns : e.echelon.width ≡ n
+    pub stands : Stands n rows written e.contradicts (vec_items e.echelon.cells) (vec_items e.row)
+
+  -- of the system that the elimination holds, and of the check that is being written
+  abbrev pub WhereHeld : Elimination F → (ℕ → List (Row F) → List F → Type 0) → Type 0
+  WhereHeld e P = (n : ℕ) (rows : List (Row F)) (written : List F) → Holds e n rows written → P n rows written
 
 -- the solution that was found last
 abbrev pub solution : {F : Type 0} → Elimination F → List F
-solution e = take e.unknowns (vec_items e.least)
+solution e = take e.echelon.width (vec_items e.least)

@@ -9,6 +9,10 @@ abbrev pub rows_of : {X : Type 0} → ℕ → ℕ → List X → List (List X)
 rows_of s zero t = []
 rows_of s (suc n) t = take s t ∷ rows_of s n (drop s t)
 
+-- the row of column j, in a table of width w
+abbrev pub row_of : {X : Type 0} → ℕ → List X → ℕ → List X
+row_of w t j = slice_index_or (rows_of (suc w) w t) j []
+
 module _ {F : Type 0} (K : Field F) where
   open K use {zer, is}
 
@@ -28,6 +32,10 @@ module _ {F : Type 0} (K : Field F) where
   -- the basis of width w that stands at the front of the table
   abbrev pub basis_of : ℕ → List F → Basis F
   basis_of w t = stack 0 (rows_of (suc w) w t)
+
+  -- whether column j has no row
+  abbrev pub is_free : ℕ → List F → ℕ → Bool
+  is_free w t j = is (slice_index_or (row_of w t j) (suc j) zer) zer
 
   -- the columns before j, put back on an insertion
   abbrev pub wrap : List (List F) → ℕ → Insertion F → Insertion F

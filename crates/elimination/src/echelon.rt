@@ -1,101 +1,141 @@
 //! A table of rows in echelon form: the row of column j is in use if its coefficient at j is not zero. It is one then, and what stands before it is not read.
-ghost use Rattle.std.specs.Prelude.{◌≡◌, ◌+◌, ◌*◌, ◌<◌, ◌≤◌, length};
-ghost use Rattle.linear.specs.Basis.{slack, least};
-ghost use Rattle.elimination.specs.Table.{basis_of, Reduced};
+//! A row has its right side first, and then a coefficient for each column.
+ghost use Rattle.std.specs.Prelude.{◌≡◌, ◌+◌, ◌<◌, ◌≤◌, length, vec_len, unwrap_or, IfOk, IfSome};
+ghost use Rattle.linear.specs.Basis.{empty, slack, least};
+ghost use Rattle.elimination.specs.Table.{basis_of, row_of, is_free, Reduced};
 ghost use Rattle.elimination.specs.Inserted.{Inserted};
+ghost use Rattle.elimination.specs.declared.echelon.TheConstants.{MOST, CELLS};
 
-use values::{Value, add_times, dot, scale};
+use std::alloc::{AllocError, Global};
+use values::{Value, add_times, clear, dot, scale, zeros};
+
+/// The most columns.
+pub(crate) const MOST: usize = 256;
+
+/// The length of a row of a table of that many columns.
+pub(crate) const STRIDE: usize = MOST + 1;
+
+const CELLS: usize = MOST * STRIDE;
+
+/// A table of at most 256 columns, in memory for so many.
+#[derive(Drop)]
+pub(crate) struct Echelon<T> {
+    pub(crate) width: usize,
+    /// The rows, end to end.
+    cells: Vec<T>,
+    ghost few: { width ≤ MOST },
+    ghost room: { vec_len cells ≡ CELLS },
+}
 
 /// What came of a row.
-#[derive(Drop)]
+#[derive(Clone, Copy, Debug, PartialEq, Eq)]
 pub(crate) enum Added {
     Grown,
     Known,
     Clash,
 }
 
-/// Takes rows of the table off `row`, from the first column on, up to a column where the row has a coefficient and the table no row. Answers that column, or `width` where there is none.
-pub(crate) fn reduce<T: Value>(table: &[T], width: usize, row: &mut [T]) -> usize
-    requires within { width * (width + 1) ≤ length table.now }
-    requires row { length row.old ≡ width + 1 }
-    requires small { width ≤ 256 }
-    ensures { Reduced T.Value.field width table.now row.old result row.new }
-{
-    let stride = width + 1;
-    for j in 0..width {
-        let c = row[j + 1];
-        if !c.is_zero() {
-            let at = j * stride;
-            let d = table[at + j + 1];
-            if d.is_zero() {
-                return j;
-            }
-            let k = c.negated();
-            row[0] = row[0].plus(k.times(table[at]));
-            add_times(&mut row[j + 2..], k, &table[at + j + 2..at + stride]);
-        }
+impl<T: Value> Echelon<T> {
+    /// The table of no columns.
+    pub(crate) fn new(heap: Global) -> Result<Echelon<T>, AllocError>
+        ensures { IfOk result (λ e. e.width ≡ 0) }
+    {
+        Ok(Echelon {
+            width: 0,
+            cells: zeros(heap, CELLS)?,
+        })
     }
-    width
-}
 
-/// Takes a row into the table. The row is used up.
-pub(crate) fn insert_row<T: Value>(table: &mut [T], width: usize, row: &mut [T]) -> Added
-    requires within { width * (width + 1) ≤ length table.old }
-    requires row { length row.old ≡ width + 1 }
-    requires small { width ≤ 256 }
-    ensures { Inserted T.Value.field width table.old row.old result table.new }
-{
-    let j = reduce(table, width, row);
-    if j < width {
-        let at = j * (width + 1);
+    /// Takes this many columns, and no row.
+    pub(crate) fn begin(&mut self, width: usize)
+        requires { width ≤ MOST }
+        ensures width { self.new.width ≡ width }
+        ensures empty { basis_of T.Value.field width self.new.cells.items ≡ empty width }
+    {
+        clear(&mut self.cells[0..width * (width + 1)]);
+        self.width = width;
+    }
+
+    /// The row of a column.
+    fn row(&self, j: usize) -> &[T]
+        requires { j < self.now.width }
+        ensures long { length result.now ≡ self.now.width + 1 }
+        ensures cells { result.now ≡ row_of self.now.width self.now.cells.items j }
+    {
+        let stride = self.width + 1;
+        &self.cells[j * stride..j * stride + stride]
+    }
+
+    /// Whether a column has no row.
+    fn is_free(&self, j: usize) -> bool
+        requires { j < self.now.width }
+        ensures { result ≡ is_free T.Value.field self.now.width self.now.cells.items j }
+    {
+        self.row(j)[j + 1].is_zero()
+    }
+
+    /// Takes rows of the table off `row`, from the first column on, up to a column where the row has a coefficient and the table no row. Answers that column.
+    pub(crate) fn reduce(&self, row: &mut [T]) -> Option<usize>
+        requires { length row.old ≡ self.now.width + 1 }
+        ensures below { IfSome result (λ j. j < self.now.width) }
+        ensures reduced { Reduced T.Value.field self.now.width self.now.cells.items row.old (unwrap_or result self.now.width) row.new }
+    {
+        for j in 0..self.width {
+            let c = row[j + 1];
+            if !c.is_zero() {
+                if self.is_free(j) {
+                    return Some(j);
+                }
+                let pivot = self.row(j);
+                let k = c.negated();
+                row[0] = row[0].plus(k.times(pivot[0]));
+                add_times(&mut row[j + 2..], k, &pivot[j + 2..]);
+            }
+        }
+        None
+    }
+
+    /// Takes a row into the table. The row is used up.
+    pub(crate) fn insert(&mut self, row: &mut [T]) -> Added
+        requires { length row.old ≡ self.old.width + 1 }
+        ensures width { self.new.width ≡ self.old.width }
+        ensures inserted { Inserted T.Value.field self.old.width self.old.cells.items row.old result self.new.cells.items }
+    {
+        let Some(j) = self.reduce(row) else {
+            return if row[0].is_zero() {
+                Added::Known
+            } else {
+                Added::Clash
+            };
+        };
         let c = row[j + 1];
         scale(row, c.inverse());
-        table[at..at + (width + 1)].copy_from_slice(row);
-        return Added::Grown;
+        let stride = self.width + 1;
+        self.cells[j * stride..j * stride + stride].copy_from_slice(row);
+        Added::Grown
     }
-    let b = row[0];
-    if b.is_zero() {
-        Added::Known
-    } else {
-        Added::Clash
-    }
-}
 
-/// How many columns have no row.
-pub(crate) fn slack_of<T: Value>(table: &[T], width: usize) -> usize
-    requires within { width * (width + 1) ≤ length table.now }
-    requires small { width ≤ 256 }
-    ensures counted { result ≡ slack (basis_of T.Value.field width table.now) }
-    ensures few { result ≤ width }
-{
-    let mut n = 0;
-    for j in 0..width {
-        let d = table[j * (width + 1) + j + 1];
-        if d.is_zero() {
-            n += 1;
-        }
+    /// How many columns have no row.
+    pub(crate) fn slack(&self) -> usize
+        ensures counted { result ≡ slack (basis_of T.Value.field self.now.width self.now.cells.items) }
+        ensures few { result ≤ self.now.width }
+    {
+        (0..self.width).filter(|j| self.is_free(*j)).count()
     }
-    n
-}
 
-/// Writes the solution with every free unknown zero, column by column from the last.
-pub(crate) fn least_of<T: Value>(table: &[T], width: usize, out: &mut [T])
-    requires within { width * (width + 1) ≤ length table.now }
-    requires out { length out.old ≡ width }
-    requires small { width ≤ 256 }
-    ensures { out.new ≡ least T.Value.field (basis_of T.Value.field width table.now) }
-{
-    let stride = width + 1;
-    let mut j = width;
-    while j > 0 {
-        j -= 1;
-        let at = j * stride;
-        let d = table[at + j + 1];
-        if d.is_zero() {
-            out[j] = T::zero();
-        } else {
-            let sum = dot(&table[at + j + 2..at + stride], &out[j + 1..]);
-            out[j] = table[at].plus(sum.negated());
+    /// Writes the solution with every free unknown zero, column by column from the last.
+    pub(crate) fn least(&self, out: &mut [T])
+        requires { length out.old ≡ self.now.width }
+        ensures { out.new ≡ least T.Value.field (basis_of T.Value.field self.now.width self.now.cells.items) }
+    {
+        for j in (0..self.width).rev() {
+            out[j] = if self.is_free(j) {
+                T::zero()
+            } else {
+                let pivot = self.row(j);
+                let sum = dot(&pivot[j + 2..], &out[j + 1..]);
+                pivot[0].plus(sum.negated())
+            };
         }
     }
 }

@@ -2,27 +2,26 @@
 //! what has been added tells whether there is a solution, the least one, the slack, and whether a further check is independent.
 #![tactic(auto)]
 
-ghost use Rattle.std.specs.Prelude.{◌≡◌, ◌≤◌, vec_len};
+ghost use Rattle.std.specs.Prelude.{◌≡◌, vec_len};
+ghost use Rattle.elimination.specs.declared.echelon.TheConstants.{MOST, STRIDE};
 
 mod asking;
 mod echelon;
 mod stating;
 
+use echelon::{Echelon, MOST, STRIDE};
+
 /// A system of checks over some unknowns, reduced as each check comes in.
 ///
-/// The table has a row for each unknown, the highest first: a right side, then a coefficient for each unknown, the highest first.
-/// So the solution with every free unknown zero is the least.
+/// The columns of the table are the unknowns, the highest first, so that the solution with every free unknown zero is the least.
 #[derive(Drop)]
 pub struct Elimination<T> {
-    unknowns: usize,
+    echelon: Echelon<T>,
     contradicts: bool,
-    table: Vec<T>,
     /// The check that is being written, in the order of the table's rows.
     row: Vec<T>,
     /// The least solution, once solved.
     least: Vec<T>,
-    ghost few: { unknowns ≤ 256 },
-    ghost tabled: { vec_len table ≡ 65792 },
-    ghost rowed: { vec_len row ≡ 257 },
-    ghost roomy: { vec_len least ≡ 256 },
+    ghost rowed: { vec_len row ≡ STRIDE },
+    ghost roomy: { vec_len least ≡ MOST },
 }

@@ -74,6 +74,7 @@ pub fn zeros<T: Value>(heap: Global, len: usize) -> Result<Vec<T>, AllocError>
     ensures { IfOk result (λ v. v.items ≡ replicate len T.Value.field.zer) }
 {
     let mut row = Vec::new(heap);
+    // Kept: `vec!` clones the element, and its clause is of equal elements only where equal clones are known, which the bound `Copy` does not say.
     row.resize(len, T::zero())?;
     Ok(row)
 }
@@ -86,8 +87,9 @@ pub fn add_times<T: Value>(row: &mut [T], k: T, other: &[T])
     if row.len() != other.len() {
         return;
     }
-    for i in 0..row.len() {
-        row[i] = row[i].plus(k.times(other[i]));
+    // Kept: over `row.iter_mut().zip(other)` a proof knows nothing of what is written, so `other` is read by its index.
+    for (i, x) in row.iter_mut().enumerate() {
+        *x = x.plus(k.times(other[i]));
     }
 }
 
@@ -95,8 +97,8 @@ pub fn add_times<T: Value>(row: &mut [T], k: T, other: &[T])
 pub fn scale<T: Value>(row: &mut [T], k: T)
     ensures { row.new ≡ map (T.Value.field.mul k) row.old }
 {
-    for i in 0..row.len() {
-        row[i] = k.times(row[i]);
+    for x in row.iter_mut() {
+        *x = k.times(*x);
     }
 }
 
@@ -105,8 +107,8 @@ pub fn clear<T: Value>(row: &mut [T])
     ensures { row.new ≡ replicate (length row.old) T.Value.field.zer }
 {
     let zero = T::zero();
-    for i in 0..row.len() {
-        row[i] = zero;
+    for x in row.iter_mut() {
+        *x = zero;
     }
 }
 
@@ -115,12 +117,12 @@ pub fn dot<T: Value>(a: &[T], x: &[T]) -> T
     ensures sum { length a.now ≡ length x.now → result ≡ dotOf T.Value.field a.now x.now }
     ensures apart { (length a.now ≢ length x.now) → result ≡ T.Value.field.zer }
 {
-    let mut sum = T::zero();
     if a.len() != x.len() {
-        return sum;
+        return T::zero();
     }
-    for i in 0..a.len() {
-        sum = sum.plus(a[i].times(x[i]));
+    let mut sum = T::zero();
+    for (p, q) in a.iter().zip(x) {
+        sum = sum.plus(p.times(*q));
     }
     sum
 }

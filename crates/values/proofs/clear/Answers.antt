@@ -1,11 +1,12 @@
-use Rattle.std.proofs.Common.{◌≤◌, length, arith}
-use Rattle.values.proofs.Sums.{clear_more, clear_all}
+use Rattle.std.proofs.Common.{length, replicate, sym, ◌∙◌}
+use lib.ListN.{length-replicate}
+use Rattle.std.proofs.lemmas.List.{get_or-replicate}
+use Rattle.values.proofs.Sums.{write_more}
 use Rattle.values.proofs.clear.Goals as goal
 
-pub loop-i-preserved : goal.loop-i-preserved
-loop-i-preserved g c = clear_more g.T.Value.field.zer c.args.row.now c.loop-i.row c.loop-i.i c.zero-zero.result c.loop-i-test.true c.zero-zero.ensures c.loop-i.invariant
-
-pub returns : goal.returns
-returns g c =
-    let k : c.loop-i.i ≤ length c.args.row.now = omega (arith, c.loop-i.auto.i-end) in
-    clear_all g.T.Value.field.zer c.args.row.now c.loop-i.row c.loop-i.i c.loop-i-test.false k c.loop-i.invariant
+pub loop-x-preserved : goal.loop-x-preserved
+loop-x-preserved g c =
+    let z = g.T.Value.field.zer in
+    let row = c.args.row.now in
+    write_more (replicate (length row) z) row c.loop-x.row c.loop-x.x-index c.zero-zero.result (length-replicate (length row) z) c.loop-x-test.true c.loop-x.invariant
+    (c.zero-zero.ensures ∙ sym (get_or-replicate (length row) c.loop-x.x-index z c.zero-zero.result c.loop-x-test.true))

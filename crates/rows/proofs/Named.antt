@@ -1,6 +1,7 @@
 -- How often rows name a number: one number more, one row more, and no more than in all.
-use Rattle.std.proofs.Common.{◌≡◌, ℕ, zero, suc, ◌+◌, ◌-◌, ◌<◌, ◌≤◌, Bool, true, false, cond, eqb, List, [], ◌∷◌, ◌++◌, length, get_or, take, replicate, sym, refl, ap, ◌∙◌, add-one, arith}
-use Rattle.std.proofs.lemmas.List.{length-append, length-replicate, replicate-append-replicate}
+use Rattle.std.proofs.Common.{◌≡◌, ℕ, zero, suc, ◌+◌, ◌-◌, ◌<◌, ◌≤◌, Bool, true, false, cond, eqb, List, [], ◌∷◌, ◌++◌, length, get_or, take, drop, replicate, sym, refl, ap, ◌∙◌, append-nil, add-one, arith}
+use Rattle.std.proofs.Math.Seq.{drop-cons}
+use Rattle.std.proofs.lemmas.List.{get_or_past, length-append, length-drop, length-replicate, replicate-append-replicate}
 use Rattle.std.proofs.lemmas.List.Sums.{sum_by_more, sum_by-take-le}
 use Rattle.rows.specs.Crossing.{times, namings, namers}
 
@@ -29,6 +30,15 @@ namings_within row i q k h =
       sum_by-take-le (λ x. cond (eqb q x) 1 0) row (i + 1),
     )
 
+-- the row that comes next, where some are left
+pub next_row : (rows later : List (List ℕ)) (k : ℕ) (row : List ℕ) → drop k rows ≡ row ∷ later → (row ≡ get_or rows k []) × (later ≡ drop (k + 1) rows)
+next_row rows later k row e =
+    let low : k < length rows = omega (arith, ap length e, length-drop k rows) in
+    let d = drop-cons rows k [] low in
+    let a : suc k ≡ k + 1 = omega arith in
+    let l : later ≡ drop (suc k) rows = cc in
+    (cc, l ∙ ap (λ i. drop i rows) a)
+
 module _ (rows : List (List ℕ)) (q : ℕ) where
   pub namers_more : (k : ℕ) → namers rows q (k + 1) ≡ namers rows q k ++ namings q k (get_or rows k [])
   namers_more k = ap (namers rows q) (add-one k)
@@ -36,6 +46,17 @@ module _ (rows : List (List ℕ)) (q : ℕ) where
   pub length_namers_more : (k : ℕ) → length (namers rows q (k + 1)) ≡ length (namers rows q k) + times q (get_or rows k [])
   length_namers_more k =
       ap length (namers_more k) ∙ length-append (namers rows q k) (namings q k (get_or rows k [])) ∙ ap (λ n. length (namers rows q k) + n) (length-replicate (times q (get_or rows k [])) k)
+
+  -- where no row is left no number is named
+  pub namers_past : (k d : ℕ) → (0 < d → drop k rows ≡ []) → namers rows q (d + k) ≡ namers rows q k
+  namers_past k zero h = let e : zero + k ≡ k = omega arith in ap (namers rows q) e
+  namers_past k (suc d) h =
+      let e : suc d + k ≡ suc (d + k) = omega arith in
+      let past : length rows ≤ d + k = omega (arith, ap length (h (omega arith)), length-drop k rows) in
+      ap (namers rows q) e
+      ∙ ap (λ l. namers rows q (d + k) ++ namings q (d + k) l) (get_or_past rows (d + k) [] past)
+      ∙ append-nil (namers rows q (d + k))
+      ∙ namers_past k d (λ _. h (omega arith))
 
   front : (k d : ℕ) → length (namers rows q k) ≤ length (namers rows q (d + k))
   front k zero = omega (arith, ap (λ (n : ℕ). length (namers rows q n)) (zero_left k))

@@ -36,8 +36,8 @@ fn counted(rows: &Rows, heap: Global, count: u16, columns: u16) -> Result<Vec<us
 fn count_rows(rows: &Rows, count: u16, counts: &mut [usize]) -> Result<(), AllocError>
     ensures { OnOk result (Counted (λ q. length (namers rows.now q count)) counts.old counts.new) }
 {
-    for k in 0..count {
-        count_row(rows.row(k as usize), counts)?;
+    for row in rows.iter().take(count as usize) {
+        count_row(row, counts)?;
     }
     Ok(())
 }
@@ -55,6 +55,7 @@ fn count_row(row: &[u16], counts: &mut [usize]) -> Result<(), AllocError>
 fn count_one(q: usize, counts: &mut [usize]) -> Result<(), AllocError>
     ensures { OnOk result (Counted (λ p. (if nat_eq p q then 1 else 0)) counts.old counts.new) }
 {
+    // Kept: an index and no `get_mut`, after which a proof would know of a slice's length alone.
     if q < counts.len() {
         counts[q] = counts[q].checked_add(1).ok_or(AllocError)?;
     }
@@ -88,6 +89,7 @@ impl Columns {
         requires { HasRoom (λ q. namers rows.now q count) self.old }
         ensures { Grows (λ q. namers rows.now q count) self.old self.new }
     {
+        // Kept: the loop goes over numbers, for a row's number is what is written; a `zip` of numbers and rows would name it no less.
         for k in 0..count {
             self.mark_row(k, rows.row(k as usize));
         }

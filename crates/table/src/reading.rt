@@ -10,13 +10,7 @@ use terms::row::Side;
 pub(crate) fn sides<C: Code>(heap: Global, code: &C) -> Result<Vec<Side>, AllocError>
     ensures { IfOk result (λ v. v.items ≡ map side_of (C.meaning code.now).sides) }
 {
-    let qubits = code.qubits();
-    let mut sides = Vec::with_capacity(heap, qubits as usize)?;
-    for q in 0..qubits {
-        let Some(side) = code.side(q) else {
-            return unreachable();
-        };
-        sides.push(side)?;
-    }
-    Ok(sides)
+    (0..code.qubits())
+        .filter_map(|q| code.side(q))
+        .collect(heap)
 }

@@ -1,14 +1,29 @@
-use Rattle.std.proofs.Common.{◌+◌, length, sym, ap, ◌∙◌, arith}
+use Rattle.std.proofs.Common.{◌≡◌, ℕ, ◌+◌, [], ◌∷◌, ◌++◌, length, sym, ap, ◌∙◌, arith}
+use Rattle.std.proofs.lemmas.List.{length_push}
 use Rattle.rows.specs.Crossing.{times, namers}
 use Rattle.rows.proofs.Growing.{counted_then}
-use Rattle.rows.proofs.Named.{length_namers_more}
+use Rattle.rows.proofs.Named.{next_row, length_namers_more, namers_past}
 use Rattle.rows.proofs.crossing.count_rows.Goals as goal
 
-pub loop-k-preserved : goal.loop-k-preserved
-loop-k-preserved c =
+pub loop-row-preserved : goal.loop-row-preserved
+loop-row-preserved c =
     let rows = c.args.rows.now in
-    let k = c.loop-k.k in
-    counted_then (λ q. length (namers rows q k)) (λ q. times q c.row.result.now) (λ q. length (namers rows q (k + 1)))
-    c.args.counts.now c.loop-k.counts c.count_row.new.counts (omega arith)
-    (λ q. length_namers_more rows q k ∙ ap (λ l. length (namers rows q k) + times q l) (sym c.row.ensures))
-    c.loop-k.invariant c.in_ok-count_row.ensures
+    let k = length c.loop-row.yielded in
+    let more : length (c.loop-row.yielded ++ c.in-Some.row ∷ []) ≡ k + 1 = length_push c.loop-row.yielded c.in-Some.row in
+    let next = next_row rows c.next.new.self.iter k c.in-Some.row.now (sym c.loop-row.invariant.1 ∙ c.in-Some.ensures.steps.0) in
+    rw more (
+      counted_then (λ q. length (namers rows q k)) (λ q. times q c.in-Some.row.now) (λ q. length (namers rows q (k + 1)))
+          c.args.counts.now c.loop-row.counts c.count_row.new.counts (omega arith)
+          (λ q. length_namers_more rows q k ∙ ap (λ l. length (namers rows q k) + times q l) (sym next.0))
+          c.loop-row.invariant.0 c.in_ok-count_row.ensures,
+      next.1,
+      omega (arith, c.in-Some.ensures.steps.1, c.loop-row.invariant.2),
+    )
+
+pub returns : goal.returns
+returns c q h =
+    let rows = c.args.rows.now in
+    let n = c.loop-row.row-iterator.n in
+    let k = length c.loop-row.yielded in
+    let all = namers_past rows q k n (λ z. sym c.loop-row.invariant.1 ∙ (c.in-None.ensures.steps z).0) in
+    omega (arith, c.loop-row.invariant.0 q h, ap length all, ap (λ (m : ℕ). length (namers rows q m)) c.loop-row.invariant.2)

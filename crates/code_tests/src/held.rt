@@ -4,6 +4,7 @@ use code::Code;
 use code::turned::Turned;
 use listed::Listed;
 use played::codes::{listed_in, product_in};
+use played::numbers::Numbers;
 use played::refused::Refused;
 use product::product::Product;
 use std::alloc::{AllocError, Global};
@@ -26,20 +27,24 @@ impl Held {
         heap: Global,
         question: &Question,
     ) -> Result<(Held, String), AllocError> {
-        let made = match question.word() {
-            "product" => product_in(heap, question.numbers()).map(Held::Product),
-            "listed" => listed_in(heap, question.numbers()).map(Held::Listed),
-            "turned" => Ok(self.turned()),
-            _ => {
-                let answer = self.ask(heap, question)?;
-                return Ok((self, answer));
-            }
-        };
+        let numbers = question.numbers();
+        match question.word() {
+            "product" => self.after(heap, question, product_in(heap, numbers).map(Held::Product)),
+            "listed" => self.after(heap, question, listed_in(heap, numbers).map(Held::Listed)),
+            "turned" => self.turned().answered(heap, question),
+            _ => self.answered(heap, question),
+        }
+    }
+
+    /// The code after a making, and the answer. A refused making leaves the code.
+    fn after(
+        self,
+        heap: Global,
+        question: &Question,
+        made: Result<Held, Refusal>,
+    ) -> Result<(Held, String), AllocError> {
         match made {
-            Ok(held) => {
-                let answer = held.sizes(heap)?;
-                Ok((held, answer))
-            }
+            Ok(held) => held.answered(heap, question),
             Err(Refusal::NoMemory) => Err(AllocError),
             Err(refusal) => Ok((self, format!(in heap; "{}", Refused(refusal))?)),
         }
@@ -53,41 +58,38 @@ impl Held {
         }
     }
 
-    fn sizes(&self, heap: Global) -> Result<String, AllocError> {
-        match self.lend(|code| sizes_of(heap, code)) {
-            Some(sizes) => sizes,
-            None => String::from_str(heap, "nothing"),
-        }
-    }
-
-    fn ask(&self, heap: Global, question: &Question) -> Result<String, AllocError> {
-        match self.lend(|code| ask_code(code, question)).flatten() {
-            Some(number) => format!(in heap; "{number}"),
-            None => String::from_str(heap, "none"),
-        }
-    }
-
-    /// What a question to the held code gives, if there is one.
-    fn lend<R: Drop, F: FnOnce(&dyn Code) -> R>(&self, question: F) -> Option<R> {
-        match self {
-            Held::Nothing => None,
-            Held::Product(code) => Some(question(code)),
-            Held::TurnedProduct(code) => Some(question(code)),
-            Held::Listed(code) => Some(question(code)),
-            Held::TurnedListed(code) => Some(question(code)),
-        }
+    /// The code, and its answer.
+    // Kept: an arm for each code, all with the one generic call. A function that lends the code to a closure would take an
+    // `FnOnce(&dyn Code) -> R`, and the check cannot state an item with such a bound.
+    fn answered(self, heap: Global, question: &Question) -> Result<(Held, String), AllocError> {
+        let answer = match &self {
+            Held::Nothing if question.word() == "turned" => String::from_str(heap, "nothing"),
+            Held::Nothing => String::from_str(heap, "none"),
+            Held::Product(code) => answer_of(heap, code, question),
+            Held::TurnedProduct(code) => answer_of(heap, code, question),
+            Held::Listed(code) => answer_of(heap, code, question),
+            Held::TurnedListed(code) => answer_of(heap, code, question),
+        };
+        Ok((self, answer?))
     }
 }
 
-fn sizes_of(heap: Global, code: &dyn Code) -> Result<String, AllocError> {
-    let qubits = code.qubits();
-    let checks = code.checks();
-    let generators = code.generators();
-    format!(in heap; "ok {qubits} {checks} {generators}")
+/// The answer of a code: its sizes where it was just made, and what it answers to a question.
+fn answer_of<C: Code>(heap: Global, code: &C, question: &Question) -> Result<String, AllocError> {
+    if let "product" | "listed" | "turned" = question.word() {
+        let qubits = code.qubits();
+        let checks = code.checks();
+        let generators = code.generators();
+        return format!(in heap; "ok {qubits} {checks} {generators}");
+    }
+    match ask_code(code, question) {
+        Some(number) => format!(in heap; "{number}"),
+        None => String::from_str(heap, "none"),
+    }
 }
 
-fn ask_code(code: &dyn Code, question: &Question) -> Option<u16> {
-    let mut numbers = question.numbers();
+fn ask_code<C: Code>(code: &C, question: &Question) -> Option<u16> {
+    let mut numbers = Numbers::new(question.numbers());
     let first = numbers.short();
     let second = numbers.short();
     match question.word() {

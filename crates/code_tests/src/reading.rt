@@ -1,5 +1,4 @@
 //! Reading a line.
-use played::numbers::Numbers;
 use std::alloc::{AllocError, Global};
 
 /// A word and the numbers after it.
@@ -28,7 +27,7 @@ impl Question {
         self.word.as_str()
     }
 
-    pub(crate) fn numbers(&self) -> Numbers<'_> {
-        Numbers::new(self.numbers.as_slice())
+    pub(crate) fn numbers(&self) -> &[u32] {
+        self.numbers.as_slice()
     }
 }

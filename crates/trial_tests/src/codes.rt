@@ -46,8 +46,8 @@ impl Codes {
     /// The answer to a step about codes; none to another step.
     pub(crate) fn play(&mut self, heap: Global, step: &Step) -> Result<Option<String>, AllocError> {
         let made = match step.word() {
-            "product" => self.make_product(heap, step.numbers()),
-            "listed" => self.make_listed(heap, step.numbers()),
+            "product" => self.make_product(heap, step.all_numbers()),
+            "listed" => self.make_listed(heap, step.all_numbers()),
             "turned" => self.make_turned(heap, step.numbers()),
             _ => return self.ask(heap, step),
         };
@@ -59,13 +59,13 @@ impl Codes {
         Ok(Some(answer))
     }
 
-    fn make_product(&mut self, heap: Global, numbers: Numbers) -> Result<String, Refusal> {
+    fn make_product(&mut self, heap: Global, numbers: &[u32]) -> Result<String, Refusal> {
         let code = product_in(heap, numbers)?;
         let table = Table::of(heap, &code)?;
         self.keep(heap, Source::Product(code), table)
     }
 
-    fn make_listed(&mut self, heap: Global, numbers: Numbers) -> Result<String, Refusal> {
+    fn make_listed(&mut self, heap: Global, numbers: &[u32]) -> Result<String, Refusal> {
         let code = listed_in(heap, numbers)?;
         let table = Table::of(heap, &code)?;
         self.keep(heap, Source::Listed(code), table)

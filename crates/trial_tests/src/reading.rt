@@ -48,8 +48,12 @@ impl Step {
         )
     }
 
+    pub(crate) fn all_numbers(&self) -> &[u32] {
+        self.numbers.as_slice()
+    }
+
     pub(crate) fn numbers(&self) -> Numbers<'_> {
-        Numbers::new(self.numbers.as_slice())
+        Numbers::new(self.all_numbers())
     }
 }
 

@@ -21,6 +21,7 @@ impl Trial<'_> {
     {
         let q = qubit as usize;
         let checks = self.table.checks_at(qubit);
+        // What was erased counts in its checks no more, and what is flipped turns them.
         let counted = if self.status[q] == Status::Erased {
             checks
         } else {

@@ -46,6 +46,7 @@ impl<'t> Trial<'t> {
     }
 }
 
+// Kept: `open` is called with the two lists apart, and a struct of both for its two private calls would be no plainer.
 /// Whether an opening is refused, and why. Both lists are searched for each fault in turn.
 fn open_fault(table: &Table, lost: &[u16], odd: &[u16], tally: &Tally) -> Result<(), Refusal>
     ensures { result ≡ checked (fault (open_bars (meaning_of table.now) (tally_of tally.now) lost.now odd.now)) }

@@ -13,6 +13,7 @@ use terms::refusal::Refusal;
 use terms::row::Row;
 
 impl Trial<'_> {
+    // Kept: that the whole table stays stands beside what happens, here, at `prune` and at `finish`; a definition of both would hide one equation behind a word.
     /// Peels a dangling check, an open one that holds exactly one erased qubit: the qubit is done, flipped if the check is odd. Answers the qubit.
     pub fn peel(&mut self, slip: &Slip, check: u16) -> Result<u16, Refusal>
         ensures does { (result, model self.new) ≡ peel (meaning_of self.old.table.now) (model self.old) slip.now.number check }
@@ -50,6 +51,7 @@ impl Trial<'_> {
     }
 
     /// Whether a check is dangling: open, with exactly one erased qubit.
+    #[tactic(auto, unfolding(crate::specs::Model::model))]
     pub(crate) fn is_dangling(&self, check: u16) -> bool
         ensures { result ≡ dangling (meaning_of self.now.table.now) (model self.now) check }
     {

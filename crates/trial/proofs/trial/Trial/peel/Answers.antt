@@ -41,9 +41,9 @@ overflow_add-self c =
     let u = c.finish.new.self in
     omega (arith, u.few, (table_sound u.table.now).few_qubits)
 
-pub invariant_of-self : goal.invariant_of-self
+pub invariant_of-self-clause-few : goal.invariant_of-self-clause-few
 unfolding model
-invariant_of-self c =
+invariant_of-self-clause-few c =
     let t = c.args.self.now in
     let u = c.finish.new.self in
     let slip = c.args.slip.now.number in
@@ -52,11 +52,11 @@ invariant_of-self c =
     let q = c.in-Some.qubit in
     let found = c.in-Some.ensures ∙ ap₂ (λ l r. first_in (erased_of l) r) c.as_slice.ensures.value c.row-row.ensures in
     let more = room t u q _ (is_qubit t slip k fine q found) (erased_is t slip k fine q found) c.finish.ensures.does c.finish.ensures.table in
-    record { status_fit = u.status_fit; flipped_fit = u.flipped_fit; closed_fit = u.closed_fit; odd_fit = u.odd_fit; counts_fit = u.counts_fit; few = omega (arith, more) }
+    omega (arith, more)
 
-pub returns : goal.returns
+pub returns-clause-does : goal.returns-clause-does
 unfolding model
-returns c =
+returns-clause-does c =
     let t = c.args.self.now in
     let u = c.finish.new.self in
     let slip = c.args.slip.now.number in
@@ -66,4 +66,4 @@ returns c =
     let found = c.in-Some.ensures ∙ ap₂ (λ l r. first_in (erased_of l) r) c.as_slice.ensures.value c.row-row.ensures in
     let low : k < length (vec_items t.odd) = omega (arith, is_check t slip k fine, t.odd_fit) in
     let odd = get_or_read (vec_items t.odd) k c.index-flip.result.now low c.index-flip.ensures false in
-    record { does = peels t slip k fine q found (model u) c.index-flip.result.now odd c.finish.ensures.does; table = c.finish.ensures.table }
+    peels t slip k fine q found (model u) c.index-flip.result.now odd c.finish.ensures.does

@@ -23,9 +23,9 @@ overflow_add-self c =
     let u = c.finish.new.self in
     omega (arith, u.few, (table_sound u.table.now).few_qubits)
 
-pub invariant_of-self : goal.invariant_of-self
+pub invariant_of-self-clause-few : goal.invariant_of-self-clause-few
 unfolding model
-invariant_of-self c =
+invariant_of-self-clause-few c =
     let t = c.args.self.now in
     let u = c.finish.new.self in
     let slip = c.args.slip.now.number in
@@ -33,15 +33,15 @@ invariant_of-self c =
     let l = c.args.generators.now in
     let fine = passes (fault (prune_bars (code t) (model t) slip q l)) _ c.in_ok-prune_fault.ensures in
     let more = room t u q _ (is_qubit t slip q l fine) (erased_is t slip q l fine) c.finish.ensures.does c.finish.ensures.table in
-    record { status_fit = u.status_fit; flipped_fit = u.flipped_fit; closed_fit = u.closed_fit; odd_fit = u.odd_fit; counts_fit = u.counts_fit; few = omega (arith, more) }
+    omega (arith, more)
 
-pub returns : goal.returns
+pub returns-clause-does : goal.returns-clause-does
 unfolding model
-returns c =
+returns-clause-does c =
     let t = c.args.self.now in
     let u = c.finish.new.self in
     let slip = c.args.slip.now.number in
     let q = c.args.qubit in
     let l = c.args.generators.now in
     let fine = passes (fault (prune_bars (code t) (model t) slip q l)) _ c.in_ok-prune_fault.ensures in
-    record { does = prunes t slip q l fine (model u) c.finish.ensures.does; table = c.finish.ensures.table }
+    prunes t slip q l fine (model u) c.finish.ensures.does

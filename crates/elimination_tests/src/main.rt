@@ -15,8 +15,8 @@ fn main(rt: HostRuntime) -> anyhow::Result<()> {
     };
     for unknowns in 0..5u16 {
         let mut counts = Counts::default();
-        for checks in 0..4u32 {
-            for code in 0..power(checks * (u32::from(unknowns) + 1)) {
+        for checks in 0..4u16 {
+            for code in 0..power(checks * (unknowns + 1)) {
                 play(
                     &mut table,
                     System {

@@ -21,7 +21,7 @@ impl Counts {
 /// Writes the check of these unknowns.
 fn write(table: &mut Elimination<bool>, unknowns: u16, mask: u32) {
     for place in 0..unknowns {
-        if bit(mask, u32::from(unknowns - 1 - place)) {
+        if bit(mask, unknowns - 1 - place) {
             let _ = table.put(place, true);
         }
     }
@@ -44,7 +44,7 @@ pub(crate) fn play(table: &mut Elimination<bool>, system: System, counts: &mut C
         write(table, unknowns, system.left(i));
         table.add(system.right(i));
     }
-    for row in 0..power(u32::from(unknowns)) {
+    for row in 0..power(unknowns) {
         write(table, unknowns, row);
         let independent = table.is_independent();
         if independent {
@@ -60,11 +60,7 @@ pub(crate) fn play(table: &mut Elimination<bool>, system: System, counts: &mut C
     match least {
         Some(x) => {
             counts.expect(solved && subset(table.least()) == x);
-            counts.expect(
-                table
-                    .slack()
-                    .is_some_and(|slack| power(u32::from(slack)) == count),
-            );
+            counts.expect(table.slack().is_some_and(|slack| power(slack) == count));
         }
         None => counts.expect(!solved && table.slack().is_none()),
     }

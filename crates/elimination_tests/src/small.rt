@@ -6,17 +6,17 @@
 #[derive(Clone, Copy)]
 pub(crate) struct System {
     pub(crate) unknowns: u16,
-    pub(crate) checks: u32,
+    pub(crate) checks: u16,
     pub(crate) code: u32,
 }
 
 /// Whether the bit of a mask is set.
-pub(crate) fn bit(mask: u32, k: u32) -> bool {
+pub(crate) fn bit(mask: u32, k: u16) -> bool {
     (mask >> (k % 32)) & 1 == 1
 }
 
 /// Two to the k.
-pub(crate) fn power(k: u32) -> u32 {
+pub(crate) fn power(k: u16) -> u32 {
     1 << (k % 32)
 }
 
@@ -27,19 +27,15 @@ pub(crate) fn odd(a: u32, b: u32) -> bool {
 
 impl System {
     /// The unknowns of a check.
-    pub(crate) fn left(self, i: u32) -> u32 {
-        let width = u32::from(self.unknowns) + 1;
-        (self.code >> (i.wrapping_mul(width) % 32))
-            & power(u32::from(self.unknowns)).wrapping_sub(1)
+    pub(crate) fn left(self, i: u16) -> u32 {
+        let width = self.unknowns.wrapping_add(1);
+        (self.code >> (i.wrapping_mul(width) % 32)) & power(self.unknowns).wrapping_sub(1)
     }
 
     /// Whether a check is odd.
-    pub(crate) fn right(self, i: u32) -> bool {
-        let width = u32::from(self.unknowns) + 1;
-        bit(
-            self.code,
-            i.wrapping_mul(width).wrapping_add(u32::from(self.unknowns)),
-        )
+    pub(crate) fn right(self, i: u16) -> bool {
+        let width = self.unknowns.wrapping_add(1);
+        bit(self.code, i.wrapping_mul(width).wrapping_add(self.unknowns))
     }
 
     /// Whether the subset puts an odd number into exactly the odd checks.
@@ -56,7 +52,7 @@ impl System {
     pub(crate) fn solutions(self) -> (u32, Option<u32>) {
         let mut count = 0u32;
         let mut least = None;
-        for x in 0..power(u32::from(self.unknowns)) {
+        for x in 0..power(self.unknowns) {
             if self.explained(x) {
                 if count == 0 {
                     least = Some(x);
@@ -69,6 +65,6 @@ impl System {
 
     /// Whether some subset is even on every check and odd on this row.
     pub(crate) fn independent(self, row: u32) -> bool {
-        (0..power(u32::from(self.unknowns))).any(|x| self.even(x) && odd(row, x))
+        (0..power(self.unknowns)).any(|x| self.even(x) && odd(row, x))
     }
 }

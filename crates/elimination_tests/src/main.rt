@@ -13,10 +13,10 @@ fn main(rt: HostRuntime) -> anyhow::Result<()> {
         println!(rt; "not enough memory")?;
         return Ok(());
     };
-    for unknowns in 0..5u32 {
-        let mut counts = Counts::new();
-        for checks in 0..4u32 {
-            for code in 0..power(checks.wrapping_mul(unknowns.wrapping_add(1))) {
+    for unknowns in 0..5u16 {
+        let mut counts = Counts::default();
+        for checks in 0..4u16 {
+            for code in 0..power(checks * (unknowns + 1)) {
                 play(
                     &mut table,
                     System {
@@ -34,14 +34,13 @@ fn main(rt: HostRuntime) -> anyhow::Result<()> {
         )?;
     }
     for unknowns in 254..258u16 {
-        let wrong = match table.begin(unknowns) {
-            Ok(()) => chain(&mut table, unknowns),
-            Err(refusal) => {
-                println!(rt; "unknowns {unknowns}: {}", refusal.wording())?;
-                continue;
+        match table.begin(unknowns) {
+            Ok(()) => {
+                let wrong = chain(&mut table, unknowns);
+                println!(rt; "unknowns {unknowns}: wrong {wrong}")?;
             }
-        };
-        println!(rt; "unknowns {unknowns}: wrong {wrong}")?;
+            Err(refusal) => println!(rt; "unknowns {unknowns}: {}", refusal.wording())?,
+        }
     }
     Ok(())
 }

@@ -2,24 +2,15 @@
 use super::small::{System, bit, power};
 use elimination::Elimination;
 
-#[derive(Drop)]
-pub struct Counts {
-    pub systems: u32,
-    pub solved: u32,
-    pub independent: u32,
-    pub wrong: u32,
+#[derive(Clone, Copy, Default)]
+pub(crate) struct Counts {
+    pub(crate) systems: u32,
+    pub(crate) solved: u32,
+    pub(crate) independent: u32,
+    pub(crate) wrong: u32,
 }
 
 impl Counts {
-    pub fn new() -> Counts {
-        Counts {
-            systems: 0,
-            solved: 0,
-            independent: 0,
-            wrong: 0,
-        }
-    }
-
     fn expect(&mut self, holds: bool) {
         if !holds {
             self.wrong = self.wrong.wrapping_add(1);
@@ -28,32 +19,27 @@ impl Counts {
 }
 
 /// Writes the check of these unknowns.
-fn write(table: &mut Elimination<bool>, unknowns: u32, mask: u32) {
-    for k in 0..unknowns {
-        if bit(mask, k) {
-            let place = unknowns.wrapping_sub(k).wrapping_sub(1);
-            let _ = table.put((place % 65536) as u16, true);
+fn write(table: &mut Elimination<bool>, unknowns: u16, mask: u32) {
+    for place in 0..unknowns {
+        if bit(mask, unknowns - 1 - place) {
+            let _ = table.put(place, true);
         }
     }
 }
 
 /// The subset that a list of flags is, the first flag the most significant.
 fn subset(flags: &[bool]) -> u32 {
-    let mut x = 0u32;
-    for flag in flags {
-        x = x.wrapping_mul(2);
-        if *flag {
-            x = x.wrapping_add(1);
-        }
-    }
-    x
+    flags.iter().fold(
+        0u32,
+        |x, flag| x.wrapping_mul(2).wrapping_add(u32::from(*flag)),
+    )
 }
 
 /// Solves the system, and asks for each row whether it is independent.
-pub fn play(table: &mut Elimination<bool>, system: System, counts: &mut Counts) {
+pub(crate) fn play(table: &mut Elimination<bool>, system: System, counts: &mut Counts) {
     let unknowns = system.unknowns;
     counts.systems = counts.systems.wrapping_add(1);
-    counts.expect(table.begin((unknowns % 65536) as u16).is_ok());
+    counts.expect(table.begin(unknowns).is_ok());
     for i in 0..system.checks {
         write(table, unknowns, system.left(i));
         table.add(system.right(i));
@@ -74,18 +60,15 @@ pub fn play(table: &mut Elimination<bool>, system: System, counts: &mut Counts) 
     match least {
         Some(x) => {
             counts.expect(solved && subset(table.least()) == x);
-            counts.expect(match table.slack() {
-                Some(slack) => power(u32::from(slack)) == count,
-                None => false,
-            });
+            counts.expect(table.slack().is_some_and(|slack| power(slack) == count));
         }
         None => counts.expect(!solved && table.slack().is_none()),
     }
 }
 
 /// How many answers differ, of a system that was begun: each unknown and the next are odd, and the last one is odd.
-pub fn chain(table: &mut Elimination<bool>, unknowns: u16) -> u32 {
-    let mut counts = Counts::new();
+pub(crate) fn chain(table: &mut Elimination<bool>, unknowns: u16) -> u32 {
+    let mut counts = Counts::default();
     for place in 1..unknowns {
         counts.expect(table.put(place - 1, true).is_ok());
         counts.expect(table.put(place, true).is_ok());
@@ -98,10 +81,8 @@ pub fn chain(table: &mut Elimination<bool>, unknowns: u16) -> u32 {
     counts.expect(table.put(0, true).is_ok());
     table.add(false);
     counts.expect(table.solve() && table.slack() == Some(0));
-    let mut odd = false;
-    for flag in table.least() {
-        counts.expect(*flag == odd);
-        odd = !odd;
+    for (place, flag) in table.least().iter().enumerate() {
+        counts.expect(*flag == (place % 2 == 1));
     }
     counts.expect(table.put(0, true).is_ok());
     table.add(true);

@@ -3,7 +3,6 @@ ghost use Rattle.std.specs.Prelude.{◌≡◌, map, IfOk, OnOk, min};
 ghost use Rattle.played.specs.Making.{AnswersUnlessMemory};
 ghost use Rattle.meaning.specs.Product.{product_code, product_told};
 ghost use Rattle.meaning.specs.Listed.{listed_code, listed_told};
-ghost use Rattle.rows.specs.Read.{rows_of};
 ghost use Rattle.product.specs.OfProduct.{meaning_of as product_meaning, told_of as product_tells};
 ghost use Rattle.product.specs.Seed.{seed_fault, seed_of};
 ghost use Rattle.listed.specs.Fault.{listed_fault};
@@ -65,7 +64,7 @@ fn bytes_of(heap: Global, sides: &[u16]) -> Result<Vec<u8>, AllocError>
 
 /// A count and so many rows.
 fn rows_in(heap: Global, numbers: &mut Numbers<'_>) -> Result<Rows, AllocError>
-    ensures rows { IfOk result (λ r. rows_of r ≡ counted_rows numbers.old.rest.now) }
+    ensures rows { IfOk result (λ r. r ≡ counted_rows numbers.old.rest.now) }
     ensures rest { OnOk result (numbers.new.rest.now ≡ after_counted_rows numbers.old.rest.now) }
 {
     let count = numbers.next();

@@ -1,5 +1,4 @@
 use Rattle.std.proofs.Common.{◌≡◌, ℕ, suc, ◌+◌, ◌-◌, ◌<◌, [], ◌∷◌, ◌++◌, ap, ◌∙◌, sym, append_assoc, arith}
-use Rattle.rows.specs.Read.{rows_of}
 use Rattle.played.specs.Reading.{counted, after_counted, rows_in, after_rows_in}
 use Rattle.played.proofs.codes.rows_in.Goals as goal
 
@@ -17,10 +16,10 @@ loop-read-preserved c =
     let row = c.as_slice.ensures.value ∙ c.in_ok-row.ensures.items in
     let left = c.in_ok-row.ensures.rest in
     record {
-      rows = (λ i. rows_of c.push.new.self ++ rows_in m (left i))
-          ∙ ap (λ r. r ++ rows_in m (after_counted l)) (c.in_ok-push.ensures ∙ ap (λ r. rows_of c.loop-read.rows ++ r ∷ []) row)
-          ∙ append_assoc (rows_of c.loop-read.rows) (counted l ∷ []) (rows_in m (after_counted l))
-          ∙ ap (λ j. rows_of c.loop-read.rows ++ rows_in j l) (sym e)
+      rows = (λ i. c.push.new.self ++ rows_in m (left i))
+          ∙ ap (λ r. r ++ rows_in m (after_counted l)) (c.in_ok-push.ensures ∙ ap (λ r. c.loop-read.rows ++ r ∷ []) row)
+          ∙ append_assoc c.loop-read.rows (counted l ∷ []) (rows_in m (after_counted l))
+          ∙ ap (λ j. c.loop-read.rows ++ rows_in j l) (sym e)
           ∙ c.loop-read.invariant.rows;
       rest = ap (after_rows_in m) left ∙ ap (λ j. after_rows_in j l) (sym e) ∙ c.loop-read.invariant.rest;
     }

@@ -53,6 +53,7 @@ pub fn write_marks(marks: &[bool], bytes: &mut [u8]) -> Result<(), Refusal>
     if bytes.len() < marks.len() {
         return Err(Refusal::BufferTooShort);
     }
+    // Kept: by number, since after a `zip` with `bytes.iter_mut()` the goal `returns` stayed open: nothing is known of the bytes then.
     for (k, mark) in marks.iter().enumerate() {
         bytes[k] = u8::from(*mark);
     }

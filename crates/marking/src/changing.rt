@@ -1,8 +1,6 @@
 //! Changes at listed places. A place past the end changes nothing.
-ghost use Rattle.std.specs.Prelude.{◌≡◌, ◌++◌, map, length, drop, if◌then◌else◌, nat_lt, ℕ, List, Ok, Err, Result};
-ghost use Rattle.rules.specs.Tallies.{byte};
-ghost use Rattle.terms.specs.declared.refusal.Refusal.{Refusal};
-ghost use Rattle.terms.specs.declared.refusal.Refusal.TheVariants.{BufferTooShort};
+ghost use Rattle.std.specs.Prelude.{◌≡◌};
+ghost use Rattle.marking.specs.Written.{written};
 ghost use Rattle.upkeep.specs.Changed.{changed, turned, marked, lowered, raised};
 
 use terms::refusal::Refusal;
@@ -50,11 +48,12 @@ fn change_each<T: Copy, F: Fn(T) -> T>(places: &[u16], list: &mut [T], change: F
 
 /// Writes 1 for a mark that is set and 0 for another into the first bytes, one a mark; the others keep their values. With too few bytes nothing is written.
 pub fn write_marks(marks: &[bool], bytes: &mut [u8]) -> Result<(), Refusal>
-    ensures { ◌≡◌ {A = Result (Unit {0}) Refusal × List ℕ} (result, bytes.new) (if nat_lt (length bytes.old) (length marks.now) then (Err BufferTooShort, bytes.old) else (Ok tt, map byte marks.now ++ drop (length marks.now) bytes.old)) }
+    ensures { (result, bytes.new) ≡ written marks.now bytes.old }
 {
     if bytes.len() < marks.len() {
         return Err(Refusal::BufferTooShort);
     }
+    // Kept: by number, since after a `zip` with `bytes.iter_mut()` the goal `returns` stayed open: nothing is known of the bytes then.
     for (k, mark) in marks.iter().enumerate() {
         bytes[k] = u8::from(*mark);
     }

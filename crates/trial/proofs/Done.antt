@@ -1,13 +1,12 @@
 -- A trial's tables after one qubit is done: they fit, and mean what the rule says.
 use Rattle.std.proofs.Common.{◌≡◌, ℕ, ◌+◌, ◌<◌, ◌≤◌, Bool, true, false, cond, not, List, [], map, length, get_or, set, vec_items, sym, refl, ap, ◌∙◌, arith, length-set}
 use mathlib.Core.Bool.{beq}
-use Rattle.std.proofs.lemmas.List.{length-map, get_or-map, get_or_read, set-get_or}
+use Rattle.std.proofs.lemmas.List.{length-map, set-get_or}
 use Rattle.sets.specs.Sets.{has, meet, only, empty, size, elements}
 use Rattle.meaning.specs.Meaning.{Meaning, qubits}
 use Rattle.rules.specs.declared.answers.Status.{Status}
 use Rattle.rules.specs.declared.answers.Status.TheVariants.{Done}
 use Rattle.rules.specs.States.{State, finish}
-use Rattle.rules.specs.Calls.{held}
 use Rattle.table.specs.OfTable.{meaning_of}
 use Rattle.upkeep.specs.Changed.{changed, turned, lowered}
 use Rattle.upkeep.specs.Counts.{counts_in}
@@ -40,12 +39,6 @@ long t =
 -- the counts of erased qubits in the checks
 pub held_length : (t : Trial) → length (vec_items t.held) ≡ length (code t).checks
 held_length t = ap length t.counts_fit ∙ length-map (code t).checks (λ c. size (meet c (erased_of (vec_items t.status))))
-
-pub held_at : (t : Trial) (c : ℕ) → c < length (code t).checks → (n : ℕ) → n ≡ get_or (vec_items t.held) c n → n ≡ size (held (code t) (model t) c)
-unfolding model
-held_at t c low n e =
-    let low' : c < length (vec_items t.held) = omega (arith, held_length t) in
-    get_or_read (vec_items t.held) c n low' e 0 ∙ ap (λ l. get_or l c 0) t.counts_fit ∙ get_or-map (λ s. size (meet s (erased_of (vec_items t.status)))) (code t).checks c [] 0 low
 
 -- no changes, where a test fails
 pub changed_if : {X : Type 0} (d : X) (f : X → X) (b : Bool) (l : List ℕ) (xs : List X) → changed d f (cond b l []) xs ≡ cond b (changed d f l xs) xs

@@ -1,4 +1,3 @@
-pub mod Filled
 pub mod Checked
 pub mod Done
 pub mod Peels

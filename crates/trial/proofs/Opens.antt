@@ -3,7 +3,6 @@ use Rattle.std.proofs.Common.{◌≡◌, ℕ, ◌+◌, ◌≤◌, List, length, 
 use lib.ListN.{length-replicate}
 use Rattle.std.proofs.lemmas.List.{length-map}
 use Rattle.terms.specs.declared.refusal.Refusal.{Refusal}
-use Rattle.terms.specs.declared.refusal.Refusal.TheVariants.{NoMemory}
 use Rattle.sets.specs.Sets.{size, empty}
 use Rattle.sets.proofs.Sets.{has_empty}
 use Rattle.sets.proofs.Sizes.{size_length}
@@ -46,9 +45,6 @@ module _ (M : Meaning) (t : rules.Tally) (lost odds : List ℕ) where
 
   pub refuses : (f : Refusal) → Some f ≡ fault (rules.open_bars M t lost odds) → Opens (Err f) t t (rules.open_trial M t lost odds)
   refuses f e = subst (λ (r : Result rules.Opened Refusal × rules.Tally). Opens (Err f) t t r) (sym (fault_some t takes (rules.open_bars M t lost odds) f e)) (refl, refl)
-
-  pub wants_memory : (f : Refusal) → f ≡ NoMemory → None ≡ fault (rules.open_bars M t lost odds) → Opens (Err f) t t (rules.open_trial M t lost odds)
-  wants_memory f h e = subst (λ (r : Result rules.Opened Refusal × rules.Tally). Opens (Err f) t t r) (sym (fault_none t takes (rules.open_bars M t lost odds) e)) (h, refl)
 
   pub opens : (o : rules.Opened) (u : rules.Tally) → None ≡ fault (rules.open_bars M t lost odds)
       → o ≡ record { trial = opening M (report M lost odds) (t.opened + 1); slip = t.opened + 1 } → u ≡ rules.one_more t

@@ -29,6 +29,6 @@ OpenedOn t (Ok o) = o.trial.table.now ≡ t
 OpenedOn t (Err e) = Unit {0}
 
 -- a trial as it is opened on a table, but for its number
-pub record Begins (t : Table) (lost odds : List ℕ) (b : Trial) : Type 0 where
+pub record BegunOn (t : Table) (lost odds : List ℕ) (b : Trial) : Type 0 where
   pub on_table : b.table.now ≡ t
   pub begins : model b ≡ opening (meaning_of t) (report (meaning_of t) lost odds) 0

@@ -7,7 +7,7 @@ ghost use Rattle.rules.specs.Tallies.{open_bars, open_trial};
 ghost use Rattle.table.specs.OfTable.{meaning_of};
 ghost use Rattle.upkeep.specs.Changed.{marked};
 ghost use Rattle.upkeep.specs.Fault.{fault};
-ghost use Rattle.trial.specs.Opening.{Opens, OpenedOn, Begins};
+ghost use Rattle.trial.specs.Opening.{Opens, OpenedOn, BegunOn};
 ghost use Rattle.trial.specs.Tallied.{tally_of};
 
 use super::Trial;
@@ -75,7 +75,7 @@ fn begin<'t>(
 ) -> Result<Trial<'t>, AllocError>
     requires lost { some_past (qubits (meaning_of table.now)) lost.now ≡ false }
     requires odd { some_past (length (meaning_of table.now).checks) odd.now ≡ false }
-    ensures { IfOk result (Begins table.now lost.now odd.now) }
+    ensures { IfOk result (BegunOn table.now lost.now odd.now) }
 {
     let Erasures { status, held, .. } = Erasures::of(heap, table, lost)?;
     let flipped = vec![in heap; false; table.qubits() as usize]?;

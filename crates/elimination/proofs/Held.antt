@@ -35,13 +35,13 @@ module _ {F : Type 0} (K : Field F) where
       let q : length L ≡ k = omega arith in
       ap (take k) re ∙ take_at S Q k (ap length se ∙ length-replicate (length L) zer ∙ q) ∙ se ∙ ap (λ i. replicate i zer) q
 
-  pub begun : (n : ℕ) (t' S Q r' : List F) → n ≤ 256 → length S ≡ 257 → basis_of K n t' ≡ empty n
-      → Q ≡ replicate (length (take ((n + 1) - 0) S)) zer → (B : List F) → r' ≡ Q ++ B → Stands K n [] (replicate n zer) false t' r'
-  begun n t' S Q r' few sl be qe B re =
-      let b : (n + 1) - 0 ≡ suc n = omega arith in
+  pub begun : (u n : ℕ) (t' S Q B r' : List F) → u ≡ n → u ≤ 256 → length S ≡ 257 → basis_of K u t' ≡ empty u
+      → Q ≡ replicate (length (take ((u + 1) - 0) S)) zer → r' ≡ Q ++ B → Stands K n [] (replicate n zer) false t' r'
+  begun u n t' S Q B r' e few sl be qe re =
+      let b : (u + 1) - 0 ≡ suc n = omega arith in
       let c : suc n ≤ length S = omega arith in
-      let lb : length (take ((n + 1) - 0) S) ≡ suc n = ap (λ k. length (take k S)) b ∙ length-take-le (suc n) S c in
-      begins K n t' r' be (front_clear (suc n) (suc n) r' Q B (take ((n + 1) - 0) S) re qe lb refl)
+      let lb : length (take ((u + 1) - 0) S) ≡ suc n = ap (λ k. length (take k S)) b ∙ length-take-le (suc n) S c in
+      begins K n t' r' (subst (λ (m : ℕ). basis_of K m t' ≡ empty m) e be) (front_clear (suc n) (suc n) r' Q B (take ((u + 1) - 0) S) re qe lb refl)
 
   -- the row that is read
   read : (u n : ℕ) (written r D : List F) → u ≡ n → D ≡ r → take (suc n) r ≡ zer ∷ rev written → take ((u + 1) - 0) D ≡ zer ∷ rev written

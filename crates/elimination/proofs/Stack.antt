@@ -1,15 +1,13 @@
 -- A table of rows as a basis: one column's step of an insertion, and where the steps lead.
-use Rattle.std.proofs.Common.{◌≡◌, ℕ, zero, suc, ◌+◌, ◌*◌, ◌<◌, ◌≤◌, Bool, true, false, ◌≢◌, List, [], ◌∷◌, map, length, get_or, take, drop, set, sym, refl, ap, ◌∙◌, ap₂, true≢false, suc-mul, zero-mul, arith, length-drop, length-set, drop-cons, get_or-set_other}
-use Rattle.std.proofs.lemmas.List.{drop-drop}
+use Rattle.std.proofs.Common.{◌≡◌, ℕ, zero, suc, ◌+◌, ◌*◌, ◌<◌, ◌≤◌, Bool, true, false, ◌≢◌, List, [], ◌∷◌, map, length, get_or, take, drop, set, sym, refl, ap, ◌∙◌, ap₂, true≢false, suc-mul, zero-mul, add-one, arith, length-drop, length-set, drop-cons, get_or-set_other}
+use Rattle.std.proofs.lemmas.List.{drop-drop, drop-set}
 use Rattle.linear.specs.Field.{Field}
 use Rattle.linear.specs.Basis.{Basis, free, lead, grown, known, clash, under, at_free, hd, tl, mix, insert}
 use Rattle.linear.proofs.Algebra.{zer_add, zer_mul, mul_zer, is_not, inverts}
 use Rattle.elimination.specs.Table.{rows_of, column_if, column, stack, wrap}
 
 pub drop_here : {X : Type 0} (rows : List X) (j : ℕ) (r : X) → j < length rows → drop j (set rows j r) ≡ r ∷ drop (suc j) rows
-drop_here [] j r h = absurd (omega arith)
-drop_here (x ∷ rows) zero r h = refl
-drop_here (x ∷ rows) (suc j) r h = let h' : j < length rows = omega arith in drop_here rows j r h'
+drop_here rows j r h = drop-set rows j r h ∙ ap (λ i. r ∷ drop i rows) (add-one j)
 
 pub length_rows : {X : Type 0} (s n : ℕ) (t : List X) → length (rows_of s n t) ≡ n
 length_rows s zero t = refl

@@ -2,7 +2,7 @@
 use Rattle.std.proofs.Common.{◌≡◌, ℕ, zero, suc, ◌+◌, ◌-◌, ◌*◌, ◌<◌, ◌≤◌, true, false, List, [], ◌∷◌, ◌++◌, map, length, get_or, take, drop, set, sym, refl, ap, ◌∙◌, subst, ap₂, append-nil, mul-le-mul_right, suc-mul, zero-mul, add-one, arith, length-drop, length-set}
 use lib.ListN.{length-map}
 use borrow.Rule.Slice.PartMut.{put_mid}
-use Rattle.std.proofs.lemmas.List.{drop_all, drop-drop, take_all, take_at, drop_at, take-append-le, drop-append-le, take-take, drop-take, length-take-le, get_or_read}
+use Rattle.std.proofs.lemmas.List.{get_or-set_same, drop-set-lt, drop_all, drop-drop, take_all, take_at, drop_at, take-append-le, drop-append-le, take-take, drop-take, length-take-le, get_or_read}
 use Rattle.linear.specs.Field.{Field}
 use Rattle.linear.specs.Basis.{Basis, grown, under, ended, mix, insert}
 use Rattle.elimination.specs.Table.{rows_of, is_free, column, stack, basis_of, wrap, Passed, Reduced}
@@ -54,15 +54,6 @@ module _ {X : Type 0} where
   first_put zero m t S d h k = absurd (omega arith)
   first_put (suc a) m [] S d h k = absurd (omega arith)
   first_put (suc a) m (x ∷ t) S d h k = refl
-
-  first_set : (t : List X) (v d : X) → 0 < length t → get_or (set t 0 v) 0 d ≡ v
-  first_set [] v d h = absurd (omega arith)
-  first_set (x ∷ t) v d h = refl
-
-  tail_set : (a : ℕ) (t : List X) (v : X) → 0 < a → drop a (set t 0 v) ≡ drop a t
-  tail_set zero t v h = absurd (omega arith)
-  tail_set (suc a) [] v h = refl
-  tail_set (suc a) (x ∷ t) v h = refl
 
 module _ {F : Type 0} (K : Field F) where
   open K use {zer, add, mul, neg, inv, is}
@@ -139,12 +130,12 @@ module _ {F : Type 0} (K : Field F) where
           let jj : j + 2 ≡ suc (suc j) = omega arith in
           let full : (j + 2) + m ≡ length (set r 0 v) = omega (arith, length-set r 0 v) in
           let short : length (drop (j + 2) (set r 0 v)) ≤ m = omega (arith, length-drop (j + 2) (set r 0 v)) in
-          let P-is : P ≡ drop (suc (suc j)) r = Pe ∙ take_all m (drop (j + 2) (set r 0 v)) short ∙ tail_set (j + 2) r v a2 ∙ ap (λ i. drop i r) jj in
+          let P-is : P ≡ drop (suc (suc j)) r = Pe ∙ take_all m (drop (j + 2) (set r 0 v)) short ∙ drop-set-lt (j + 2) r 0 v a2 ∙ ap (λ i. drop i r) jj in
           let O-is : O ≡ drop (suc (suc j)) R = oe ∙ R-tail L Le p pe in
           let lens : length P ≡ length O = ap length P-is ∙ length-drop (suc (suc j)) r ∙ ap (λ i. i - suc (suc j)) (n ∙ sym R-long) ∙ sym (ap length O-is ∙ length-drop (suc (suc j)) R) in
           let k-is : k ≡ neg (get_or r (suc j) zer) = ke ∙ ap neg (coef c ce) in
           let first : get_or r' 0 zer ≡ add (get_or r 0 zer) (mul (neg (get_or r (suc j) zer)) (get_or R 0 zer)) =
-          ap (λ t. get_or t 0 zer) re ∙ first_put (j + 2) m (set r 0 v) S zer a2 rb ∙ first_set r v zer ra ∙ ve
+          ap (λ t. get_or t 0 zer) re ∙ first_put (j + 2) m (set r 0 v) S zer a2 rb ∙ get_or-set_same r 0 v zer ra ∙ ve
           ∙ ap₂ (λ u t. add u t) (get_or_read r 0 x ra xe zer) (ap₂ (λ u t. mul u t) k-is (right_side L Le y ye)) in
           let tail : drop (suc (suc j)) r' ≡ mix K (neg (get_or r (suc j) zer)) (drop (suc (suc j)) R) (drop (suc (suc j)) r) =
           ap₂ (λ i t. drop i t) (sym jj) re ∙ tail_put (j + 2) m (set r 0 v) S full ∙ se lens

@@ -1,5 +1,5 @@
 //! What a system answers.
-ghost use Rattle.std.specs.Prelude.{◌≡◌, ◌≤◌, true, replicate, Some, None};
+ghost use Rattle.std.specs.Prelude.{◌≡◌, ◌≤◌, true, replicate, IfSome};
 ghost use Rattle.std.specs.Bool.{OnFalse};
 ghost use Rattle.linear.specs.System.{solutions};
 ghost use Rattle.elimination.specs.Holds.{Holds, WhereHeld, solution};
@@ -9,8 +9,8 @@ use super::Elimination;
 use values::{Value, clear};
 
 impl<T: Value> Elimination<T> {
-    // Kept: what lends from a `&mut self` can't say what `self` is then, and a caller has to know that the system is still held.
-    /// Whether there is a solution; the least one is then in `least`, and else nothing changes.
+    // Kept: a result that borrows from `&mut self` leaves no `self.new` to its clauses, and a caller has to know that the system is still held.
+    /// Whether there is a solution. The least one is then in `least`; without one nothing changes.
     pub fn solve(&mut self) -> bool
         ensures first { WhereHeld T.Value.field self.old (λ n rows written. Holds T.Value.field self.new n rows written × First result (solutions T.Value.field (replicate n true) rows) (solution self.new)) }
         ensures kept { OnFalse result (self.new ≡ self.old) }
@@ -33,7 +33,7 @@ impl<T: Value> Elimination<T> {
 
     /// The slack: there are (number of values) ^ slack solutions. None where there is no solution.
     pub fn slack(&self) -> Option<u16>
-        ensures few { elim result [ Some s ↦ s ≤ 256 | None ↦ Unit {0} ] }
+        ensures few { IfSome result (λ s. s ≤ 256) }
         ensures power { WhereHeld T.Value.field self.now (λ n rows written. Power T.Value.field (solutions T.Value.field (replicate n true) rows) result) }
     {
         if self.contradicts {

@@ -21,6 +21,7 @@ const CELLS: usize = MOST * STRIDE;
 #[derive(Drop)]
 pub(crate) struct Echelon<T> {
     pub(crate) width: usize,
+    // Kept: rows end to end in memory for the most columns, in place of a `Vec` of rows: no call but `new` may want memory.
     /// The rows, end to end.
     cells: Vec<T>,
     ghost few: { width ≤ MOST },

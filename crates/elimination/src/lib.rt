@@ -18,6 +18,7 @@ use echelon::{Echelon, MOST, STRIDE};
 pub struct Elimination<T> {
     echelon: Echelon<T>,
     contradicts: bool,
+    // Kept: both are as long as the most unknowns ask for, and the first places of them are used: no call but `new` may want memory.
     /// The check that is being written, in the order of the table's rows.
     row: Vec<T>,
     /// The least solution, once solved.

@@ -1,5 +1,5 @@
 -- A stream of checks, read word by word.
-use Rattle.std.proofs.Common.{◌≡◌, ℕ, suc, ◌+◌, ◌<◌, ◌≤◌, Bool, true, false, cond, eqb, ltb, List, [], ◌∷◌, ◌++◌, length, get_or, drop, replicate, Some, None, Ok, Err, Result, sym, refl, ap, ◌∙◌, subst, append_assoc, append-nil, add-one, drop-cons, le-ltb, lt-ltb}
+use Rattle.std.proofs.Common.{◌≡◌, ℕ, suc, ◌+◌, ◌<◌, ◌≤◌, Bool, true, false, cond, eqb, ltb, List, [], ◌∷◌, ◌++◌, length, get_or, drop, replicate, Some, None, Ok, Err, Result, sym, ap, ◌∙◌, subst, append_assoc, append-nil, add-one, drop-cons, le-ltb, lt-ltb}
 use Rattle.std.proofs.lemmas.List.{drop_all}
 use Rattle.terms.specs.Answering.{Answers}
 use Rattle.terms.specs.declared.refusal.Refusal.{Refusal}
@@ -11,20 +11,12 @@ use Rattle.elimination.specs.Calls.{check, more, outside, KeptIfRefused}
 use Rattle.elimination.specs.declared.Elimination.{Elimination}
 use Rattle.elimination_export.specs.Stream.{taken, rows_of}
 
--- a call that answered Ok met its rule
-pub met : {P : Type 0} (b : Bool) (f : Refusal) → Answers {X = Unit {0}} (Ok tt) (cond b (Some f) None) (λ _. P) → P
-met true f k = absurd k
-met false f k = k
-
 -- i words are read: the checks so far, and those still to come
 pub record Read (n : ℕ) (all : List ℕ) (i : ℕ) (e : Elimination Bool) : Type 0 where
   pub rows : List (Row Bool)
   pub written : List Bool
   pub holds : Holds bits e n rows written
   pub rest : rows ++ rows_of n written (drop i all) ≡ rows_of n (replicate n false) all
-
-pub read_none : (n : ℕ) (all : List ℕ) (e : Elimination Bool) → Holds bits e n [] (replicate n false) → Read n all 0 e
-read_none n all e h = record { rows = []; written = replicate n false; holds = h; rest = refl }
 
 pub read_all : (n : ℕ) (all : List ℕ) (i : ℕ) (e : Elimination Bool) → length all ≤ i → (r : Read n all i e) → r.rows ≡ rows_of n (replicate n false) all
 read_all n all i e h r = sym (ap (λ l. r.rows ++ rows_of n r.written l) (drop_all i all h) ∙ append-nil r.rows) ∙ r.rest

@@ -48,6 +48,7 @@ impl System {
         (0..self.checks).all(|i| !odd(self.left(i), x))
     }
 
+    // Kept: as chains, one counting and one finding the least, this would try every subset twice.
     /// The number of solutions, and the least.
     pub(crate) fn solutions(self) -> (u32, Option<u32>) {
         let mut count = 0u32;

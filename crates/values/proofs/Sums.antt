@@ -1,6 +1,6 @@
 -- Rows written place by place, and a multiple added, over any field.
-use Rattle.std.proofs.Common.{◌≡◌, ℕ, zero, suc, ◌+◌, ◌<◌, ◌≤◌, List, [], ◌∷◌, ◌++◌, length, get_or, take, drop, set, sym, refl, ap, ◌∙◌, ap₂, append-nil, add-one, arith}
-use Rattle.std.proofs.lemmas.List.{take_all, drop_all}
+use Rattle.std.proofs.Common.{◌≡◌, ℕ, zero, suc, ◌+◌, ◌<◌, ◌≤◌, List, [], ◌∷◌, ◌++◌, length, get_or, take, drop, set, sym, ap, ◌∙◌, ap₂, append_assoc, append-nil, refl, arith}
+use Rattle.std.proofs.lemmas.List.{take_all, drop_all, drop_more, take_more, set_at, get_or_at, length-take-le}
 use Rattle.linear.specs.Field.{Field}
 use Rattle.linear.specs.Basis.{mix}
 
@@ -9,35 +9,29 @@ module _ {X : Type 0} where
   abbrev pub written : List X → List X → ℕ → List X
   written to from i = take i to ++ drop i from
 
-  write_at : (to from : List X) (i : ℕ) (v : X) → length to ≡ length from → i < length from → v ≡ get_or to i v → set (written to from i) i v ≡ written to from (suc i)
-  write_at to [] i v e h q = absurd (omega arith)
-  write_at [] (x ∷ from) i v e h q = absurd (omega arith)
-  write_at (y ∷ to) (x ∷ from) zero v e h q = ap (λ t. t ∷ from) q
-  write_at (y ∷ to) (x ∷ from) (suc i) v e h q =
-      let e' : length to ≡ length from = omega arith in
-      let h' : i < length from = omega arith in
-      ap (λ t. y ∷ t) (write_at to from i v e' h' q)
+  -- the place that is written next, between those that are and those that are not
+  parted : (to from row : List X) (i : ℕ) (d : X) → i < length from → row ≡ written to from i → row ≡ take i to ++ get_or from i d ∷ drop (i + 1) from
+  parted to from row i d h s = s ∙ ap (λ t. take i to ++ t) (drop_more from i d h)
 
   pub write_more : (to from row : List X) (i : ℕ) (v : X) → length to ≡ length from → i < length from → row ≡ written to from i → v ≡ get_or to i v → set row i v ≡ written to from (i + 1)
-  write_more to from row i v e h s q = ap (λ t. set t i v) s ∙ write_at to from i v e h q ∙ ap (written to from) (sym (add-one i))
+  write_more to from row i v e h s q =
+      let k : i < length to = omega arith in
+      let l : length (take i to) ≡ i = length-take-le i to (omega arith) in
+      ap (λ t. set t i v) (parted to from row i v h s)
+      ∙ set_at (take i to) (get_or from i v) (drop (i + 1) from) v i l
+      ∙ sym (append_assoc (take i to) (v ∷ []) (drop (i + 1) from))
+      ∙ ap (λ t. t ++ drop (i + 1) from) (ap (λ y. take i to ++ y ∷ []) q ∙ sym (take_more to i v k))
+
+  -- what is read at that place
+  pub unwritten : (to from row : List X) (i : ℕ) (x : X) → length to ≡ length from → i < length from → row ≡ written to from i → x ≡ get_or row i x → x ≡ get_or from i x
+  unwritten to from row i x e h s q =
+      let l : length (take i to) ≡ i = length-take-le i to (omega arith) in
+      q ∙ ap (λ t. get_or t i x) (parted to from row i x h s) ∙ get_or_at (take i to) (get_or from i x) (drop (i + 1) from) x i l
 
   pub write_all : (to from row : List X) (i : ℕ) → length to ≡ length from → length from ≤ i → row ≡ written to from i → row ≡ to
   write_all to from row i e h s =
       let k : length to ≤ i = omega arith in
       s ∙ ap₂ (λ a b. a ++ b) (take_all i to k) (drop_all i from h) ∙ append-nil to
-
-  -- a place that is not written yet
-  unread : (to from : List X) (i : ℕ) (d : X) → length to ≡ length from → i < length from → get_or (written to from i) i d ≡ get_or from i d
-  unread to [] i d e h = absurd (omega arith)
-  unread [] (x ∷ from) i d e h = absurd (omega arith)
-  unread (y ∷ to) (x ∷ from) zero d e h = refl
-  unread (y ∷ to) (x ∷ from) (suc i) d e h =
-      let e' : length to ≡ length from = omega arith in
-      let h' : i < length from = omega arith in
-      unread to from i d e' h'
-
-  pub unwritten : (to from row : List X) (i : ℕ) (x : X) → length to ≡ length from → i < length from → row ≡ written to from i → x ≡ get_or row i x → x ≡ get_or from i x
-  unwritten to from row i x e h s q = q ∙ ap (λ t. get_or t i x) s ∙ unread to from i x e h
 
 module _ {F : Type 0} (K : Field F) where
   open K use {add, mul}

@@ -74,7 +74,7 @@ pub fn zeros<T: Value>(heap: Global, len: usize) -> Result<Vec<T>, AllocError>
     ensures { IfOk result (λ v. v.items ≡ replicate len T.Value.field.zer) }
 {
     let mut row = Vec::new(heap);
-    // Kept: `vec!` clones the element, and its clause is of equal elements only where equal clones are known, which the bound `Copy` does not say.
+    // Kept: with `vec![in heap; T::zero(); len]` the goal `returns` stays open: the elements are clones, and the bound `Copy` does not say that clones are equal.
     row.resize(len, T::zero())?;
     Ok(row)
 }
@@ -87,7 +87,7 @@ pub fn add_times<T: Value>(row: &mut [T], k: T, other: &[T])
     if row.len() != other.len() {
         return;
     }
-    // Kept: over `row.iter_mut().zip(other)` a proof knows nothing of what is written, so `other` is read by its index.
+    // Kept: over `row.iter_mut().zip(other)` the goal `returns-clause-sum` stays open, since a proof knows nothing of what is written: `other` is read by its index.
     for (i, x) in row.iter_mut().enumerate() {
         *x = x.plus(k.times(other[i]));
     }
@@ -107,6 +107,7 @@ pub fn clear<T: Value>(row: &mut [T])
     ensures { row.new ≡ replicate (length row.old) T.Value.field.zer }
 {
     let zero = T::zero();
+    // Kept: with `row.fill(zero)` the goal `fill-requires` stays open: that a clone cannot fail is not said by the bound `Copy`.
     for x in row.iter_mut() {
         *x = zero;
     }

@@ -1,14 +1,10 @@
-use Rattle.std.proofs.Common.{ℕ, ◌+◌, true, ltb, replicate, sym, ap, ◌∙◌, subst}
-use Rattle.terms.specs.declared.refusal.Refusal.TheVariants.{TooManyUnknowns}
+use Rattle.std.proofs.Common.{ℕ, ◌+◌, true, replicate, sym, ap, ◌∙◌, subst}
 use Rattle.linear.specs.Field.{bits}
 use Rattle.linear.specs.System.{solutions}
 use Rattle.elimination.specs.Calls.{Power}
-use Rattle.elimination_export.proofs.Reading.{Read, met, read_none, read_all, read_end, read_place}
+use Rattle.elimination_export.proofs.Reading.{Read, read_all, read_end, read_place}
 use Rattle.elimination_export.proofs.solved.Goals as goal
 use Rattle.elimination_export.proofs.solved.Goals.{then-word-lt-EVEN, else-word-lt-EVEN}
-
-pub loop-word-init : goal.loop-word-init
-loop-word-init c = read_none c.args.unknowns c.args.checks.now c.begin.new.self (met (ltb 256 c.args.unknowns) TooManyUnknowns c.in_ok-begin.ensures.begun)
 
 pub loop-word-preserved : goal.loop-word-preserved
 loop-word-preserved c =

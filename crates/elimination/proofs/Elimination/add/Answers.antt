@@ -1,6 +1,5 @@
-use Rattle.std.proofs.Common.{◌≡◌, ℕ, ◌+◌, ◌-◌, ◌++◌, ◌||◌, length, take, drop, sym, ap, ◌∙◌, length-set}
-use Rattle.std.proofs.lemmas.List.{with_items_is}
-use Rattle.elimination.proofs.Lists.{refill}
+use Rattle.std.proofs.Common.{◌≡◌, ℕ, ◌+◌, ◌-◌, ◌||◌, length, take, drop, sym, ap, ◌∙◌, length-set}
+use Rattle.elimination.proofs.Lists.{put_back}
 use Rattle.elimination.proofs.Adds.{flagged_or}
 use Rattle.elimination.proofs.Held.{added}
 use Rattle.elimination.proofs.Elimination.add.Goals as goal
@@ -12,8 +11,6 @@ returns g c n rows written h =
     let u : ℕ = c.args.self.now.echelon.width in
     let k : length c.clear.new.row ≡ length (take ((c.args.self.now.echelon.width + 1) - 0) c.deref_mut.result.now) =
     c.clear.auto.row ∙ c.insert.auto.row ∙ length-set (take ((c.args.self.now.echelon.width + 1) - 0) c.deref_mut.result.now) 0 c.args.right in
-    let long : length (c.clear.new.row ++ drop ((c.args.self.now.echelon.width + 1) - 0) c.deref_mut.result.now) ≡ c.args.self.now.row.len =
-    refill ((c.args.self.now.echelon.width + 1) - 0) c.deref_mut.result.now c.clear.new.row k ∙ c.deref_mut.ensures.len in
     record {
       unknowns = c.insert.ensures.width ∙ h.unknowns;
       stands =
@@ -21,5 +18,5 @@ returns g c n rows written h =
           c.args.right c.insert.result (e.contradicts || c.eq.result) D c.insert.new.self.cells.items _ c.insert.new.row c.clear.new.row (drop ((u + 1) - 0) D)
           (flagged_or c.insert.result e.contradicts ∙ ap (λ b. e.contradicts || b) (sym c.eq.ensures))
           c.deref_mut.ensures.value c.insert.ensures.inserted c.insert.auto.row c.clear.ensures
-          (with_items_is e.row (c.clear.new.row ++ drop ((u + 1) - 0) D) long);
+          (put_back e.row ((u + 1) - 0) D c.clear.new.row k c.deref_mut.ensures.len);
     }

@@ -1,6 +1,6 @@
-use Rattle.std.proofs.Common.{◌≡◌, ℕ, ◌-◌, ◌≤◌, ◌++◌, length, take, drop, ◌∙◌, arith}
-use Rattle.std.proofs.lemmas.List.{with_items_is, length-take-le}
-use Rattle.elimination.proofs.Lists.{refill}
+use Rattle.std.proofs.Common.{◌≡◌, ℕ, ◌-◌, ◌≤◌, length, take, drop, ◌∙◌, arith}
+use Rattle.std.proofs.lemmas.List.{length-take-le}
+use Rattle.elimination.proofs.Lists.{put_back}
 use Rattle.elimination.proofs.Answers.{none_left}
 use Rattle.elimination.proofs.Held.{solved}
 use Rattle.elimination.proofs.Elimination.solve.Goals as goal
@@ -14,12 +14,10 @@ returns-clause-first g c n rows written h =
     let D = c.deref_mut.result.now in
     let u : ℕ = c.args.self.now.echelon.width in
     let k : length c.reverse.new.self ≡ length (take (c.args.self.now.echelon.width - 0) c.deref_mut.result.now) = c.reverse.auto.self ∙ c.least.auto.out in
-    let long : length (c.reverse.new.self ++ drop (c.args.self.now.echelon.width - 0) c.deref_mut.result.now) ≡ c.args.self.now.least.len =
-    refill (c.args.self.now.echelon.width - 0) c.deref_mut.result.now c.reverse.new.self k ∙ c.deref_mut.ensures.len in
     let room : c.args.self.now.echelon.width - 0 ≤ length c.deref_mut.result.now = omega (arith, c.args.self.now.echelon.few, c.args.self.now.roomy, c.deref_mut.ensures.len) in
     let size : length c.reverse.new.self ≡ c.args.self.now.echelon.width = omega (arith, k, length-take-le (c.args.self.now.echelon.width - 0) c.deref_mut.result.now room) in (
       record { unknowns = h.unknowns; stands = h.stands },
       solved g.T.Value.field u n rows written e.contradicts e.echelon.cells.items e.row.items h.unknowns h.stands
           c.least.new.out c.reverse.new.self (drop (u - 0) D) _ c.if-self.false c.least.ensures c.reverse.ensures.after size
-          (with_items_is e.least (c.reverse.new.self ++ drop (u - 0) D) long),
+          (put_back e.least (u - 0) D c.reverse.new.self k c.deref_mut.ensures.len),
     )

@@ -2,13 +2,12 @@
 use Rattle.std.proofs.Common.{◌≡◌, ℕ, zero, suc, Bool, true, false, cond, ◌||◌, ltb, List, [], ◌∷◌, ◌++◌, map, length, Ok, is_err, Some, None, Option, sym, refl, ap, ◌∙◌, arith, lt-ltb}
 use Rattle.std.specs.List.{list_any}
 use Rattle.std.proofs.Math.Bool.{or_assoc}
-use Rattle.std.proofs.lemmas.Bool.{cond-true, cond-false}
+use Rattle.std.proofs.lemmas.Bool.{cond-true, cond-false, or_parts}
 use Rattle.terms.specs.declared.refusal.Refusal.{Refusal}
 use Rattle.terms.specs.declared.refusal.Refusal.TheVariants.{OutsideLimits, QubitTooLarge, NotRising, LawFails}
 use Rattle.terms.specs.Answering.{checked}
 use Rattle.terms.specs.Rows.{side_numbered}
 use Rattle.sets.specs.Sets.{any, repeats}
-use Rattle.sets.proofs.Bits.{or_none}
 use Rattle.listed.specs.Fault.{too_long, too_large, some_row, wrong_sizes, outside_limits, law_fails, listed_fault}
 use Rattle.listed.specs.Shares.{shares_odd, shares_odd_with}
 use Rattle.listed.specs.Sound.{names}
@@ -67,8 +66,8 @@ module _ (checks generators : List (List ℕ)) (sides : List ℕ) where
   -- counted place by place, the law fails exactly if it does in the meaning
   law_are : false ≡ low_told → false ≡ once_told → law_told ≡ law_fails (length sides) checks generators
   law_are l o =
-      let a = or_none _ _ (sym low_are ∙ sym l) in
-      let b = or_none _ _ (sym once_are ∙ sym o) in
+      let a = or_parts _ _ (sym low_are ∙ sym l) in
+      let b = or_parts _ _ (sym once_are ∙ sym o) in
       (λ i. list_any (λ c. any_is (shares_odd c) generators i) checks)
       ∙ any_is (shares_odd_with generators) checks
       ∙ law_fails_lem (length sides) checks generators (names sides checks a.0 b.0) (names sides generators a.1 b.1)

@@ -3,11 +3,12 @@ use Rattle.std.proofs.Common.{◌≡◌, ℕ, ◌+◌, ◌%◌, ◌<◌, Bool, t
 use borrow.Author.Tests.{eqb-false}
 use Rattle.std.specs.List.{list_any}
 use Rattle.std.proofs.lemmas.List.Sums.{sum_by-cons}
+use Rattle.std.proofs.lemmas.Bool.{or_parts, not_from_false, not-true}
 use Rattle.sets.specs.Bits.{flip}
 use Rattle.sets.specs.Lists.{In}
 use Rattle.sets.specs.Sets.{marks, any, odd, among, repeats}
 use Rattle.sets.proofs.Any.{any_same}
-use Rattle.sets.proofs.Bits.{or_none, same, false_not, not_true}
+use Rattle.sets.proofs.Bits.{same}
 use Rattle.sets.proofs.Marks.{length_marks, has_marks, odd_set}
 use Rattle.sets.proofs.Sets.{odd_comm, odd_empty}
 use Rattle.meaning.specs.Codes.{Names}
@@ -18,7 +19,7 @@ module _ (n : ℕ) (g : List ℕ) (low-g : (q : ℕ) → In q g → q < n) where
   shares_odd_lem : (c : List ℕ) → ((q : ℕ) → In q c → q < n) → repeats c ≡ false → odd (marks n c) (marks n g) ≡ shares_odd c g
   shares_odd_lem [] low once = odd_comm (marks n []) (marks n g) ∙ odd_empty (marks n g) n
   shares_odd_lem (q ∷ c) low once =
-      let e = or_none (among q c) (repeats c) once in
+      let e = or_parts (among q c) (repeats c) once in
       let low' : (p : ℕ) → In p c → p < n = λ p m. low p (inr m) in
       let h : q < length (marks n c) = omega (arith, low q (inl refl), length_marks n c) in
       odd_set (marks n c) (marks n g) q h (has_marks n c low' q ∙ e.0)
@@ -35,8 +36,8 @@ among_is (p ∷ g) q = λ i. eqb_turned p q i || among_is g q i
 -- whether a count is odd, after a step
 odd_step : (b : Bool) (n : ℕ) → eqb ((cond b 1 0 + n) % 2) 1 ≡ flip b (eqb (n % 2) 1)
 odd_step true n =
-    same _ _ (λ e. false_not _ (ne_eqb (n % 2) 1 (λ z. absurd (omega (arith, eqb-true ((1 + n) % 2) 1 e, z)))))
-    (λ e. eq-eqb ((1 + n) % 2) 1 (omega (arith, eqb-false (n % 2) 1 (not_true _ e))))
+    same _ _ (λ e. not_from_false _ (ne_eqb (n % 2) 1 (λ z. absurd (omega (arith, eqb-true ((1 + n) % 2) 1 e, z)))))
+    (λ e. eq-eqb ((1 + n) % 2) 1 (omega (arith, eqb-false (n % 2) 1 (not-true _ e))))
 odd_step false n = let z : 0 + n ≡ n = omega arith in ap (λ n. eqb (n % 2) 1) z
 
 -- counting the common places tells whether they are odd in number

@@ -3,13 +3,12 @@ use Rattle.std.specs.Prelude.{◌≡◌, ℕ, ◌≤◌, false, List, map, lengt
 use Rattle.std.proofs.Common.{sym, subst, arith}
 use Rattle.std.proofs.lemmas.List.{length-map}
 use borrow.Author.Tests.{eqb-false, ltb-false}
-use Rattle.std.proofs.lemmas.Bool.{leb-false}
+use Rattle.std.proofs.lemmas.Bool.{leb-false, or_parts}
 use Rattle.terms.specs.declared.refusal.Refusal.{Refusal}
 use Rattle.terms.proofs.Answering.{test_fails}
 use Rattle.sets.specs.Lists.{In}
 use Rattle.sets.specs.Sets.{marks, any, odd, repeats}
 use Rattle.sets.proofs.Any.{any_false}
-use Rattle.sets.proofs.Bits.{or_none}
 use Rattle.meaning.specs.Meaning.{Sound}
 use Rattle.meaning.specs.Telling.{Tells}
 use Rattle.meaning.specs.Listed.{listed_code, listed_told}
@@ -61,12 +60,12 @@ module _ (checks generators : List (List ℕ)) (sides : List ℕ) where
   pub limits : is_some (listed_fault checks generators sides) ≡ false → Limits
   unfolding outside_limits
   limits h =
-      let a = or_none _ _ (clean h).limits in
-      let b = or_none _ _ a.0 in
-      let d = or_none _ _ b.0 in
-      let e = or_none _ _ d.0 in
-      let f = or_none _ _ e.0 in
-      let g = or_none _ _ b.1 in
+      let a = or_parts _ _ (clean h).limits in
+      let b = or_parts _ _ a.0 in
+      let d = or_parts _ _ b.0 in
+      let e = or_parts _ _ d.0 in
+      let f = or_parts _ _ e.0 in
+      let g = or_parts _ _ b.1 in
       let z = eqb-false (length sides) 0 f.0 in
       record {
         some = omega (arith, z);
@@ -79,10 +78,10 @@ module _ (checks generators : List (List ℕ)) (sides : List ℕ) where
       }
 
   check_names : is_some (listed_fault checks generators sides) ≡ false → Names (length sides) checks
-  check_names h = names sides checks (or_none _ _ (clean h).low).0 (or_none _ _ (clean h).once).0
+  check_names h = names sides checks (or_parts _ _ (clean h).low).0 (or_parts _ _ (clean h).once).0
 
   generator_names : is_some (listed_fault checks generators sides) ≡ false → Names (length sides) generators
-  generator_names h = names sides generators (or_none _ _ (clean h).low).1 (or_none _ _ (clean h).once).1
+  generator_names h = names sides generators (or_parts _ _ (clean h).low).1 (or_parts _ _ (clean h).once).1
 
   evens : is_some (listed_fault checks generators sides) ≡ false → Even (length sides) checks generators
   evens h c g m k =

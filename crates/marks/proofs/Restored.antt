@@ -1,9 +1,9 @@
 -- Bytes that are zero anyway.
 use Rattle.std.proofs.Common.{◌≡◌, ℕ, min, false, not, eqb, ltb, List, [], ◌∷◌, ◌++◌, length, take, drop, replicate, None, sym, refl, ap, ◌∙◌, length-take, eqb-true}
 use Rattle.std.proofs.lemmas.List.{take-append-drop}
+use Rattle.std.proofs.lemmas.Bool.{or_parts, not-false}
 use Rattle.terms.specs.declared.refusal.Refusal.TheVariants.{BufferTooShort, ScratchNotZero}
 use Rattle.terms.proofs.Answering.{test_fails}
-use Rattle.sets.proofs.Bits.{or_none, not_false}
 use Rattle.rules.specs.Refusing.{some_nonzero}
 use Rattle.marks.specs.Marks.{scratch_fault, Restores}
 
@@ -15,8 +15,8 @@ clean n bytes h = (test_fails (some_nonzero (take n bytes)) ScratchNotZero None 
 zeros : (l : List ℕ) → some_nonzero l ≡ false → l ≡ replicate (length l) 0
 zeros [] e = refl
 zeros (x ∷ l) e =
-    let o = or_none (not (eqb x 0)) (some_nonzero l) e in
-    let z : x ≡ 0 = eqb-true x 0 (not_false (eqb x 0) o.0) in
+    let o = or_parts (not (eqb x 0)) (some_nonzero l) e in
+    let z : x ≡ 0 = eqb-true x 0 (not-false (eqb x 0) o.0) in
     let r : l ≡ replicate (length l) 0 = zeros l o.1 in
     cc
 

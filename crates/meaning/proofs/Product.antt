@@ -5,10 +5,11 @@ use borrow.Author.Tests.{eqb-false}
 use Rattle.std.specs.List.{range_with_len}
 use Rattle.std.proofs.lemmas.Nat.{mul-le}
 use Rattle.std.proofs.lemmas.List.FromFn.{length-range_with_len}
+use Rattle.std.proofs.lemmas.Bool.{cases_Bool}
 use Rattle.sets.specs.Bits.{flip}
 use Rattle.sets.specs.Lists.{In, flat}
 use Rattle.sets.specs.Sets.{has, row, empty, only, odd}
-use Rattle.sets.proofs.Bits.{either, flip_self, flip_false}
+use Rattle.sets.proofs.Bits.{flip_self, flip_false}
 use Rattle.sets.proofs.Lists.{of_map, of_flat}
 use Rattle.sets.proofs.Numbers.{eqb_same, in_counting}
 use Rattle.sets.proofs.Sets.{has_mapped, odd_empty, odd_only, odd_comm, odd_append, length_only, row_of}
@@ -32,7 +33,7 @@ total_none f from (suc n) h = ap (λ t. flip t (total f (range_with_len (from + 
 
 total_one : (f : ℕ → Bool) (from n b : ℕ) → ((x : ℕ) → (x ≡ b → ⊥) → f x ≡ false) → from ≤ b → b < from + n → total f (range_with_len from n) ≡ f b
 total_one f from zero b h p q = absurd (omega arith)
-total_one f from (suc n) b h p q = go (either (eqb from b)) (total_one f (from + 1) n b h)
+total_one f from (suc n) b h p q = go (cases_Bool (eqb from b)) (total_one f (from + 1) n b h)
   where
     go : (eqb from b ≡ true) ⊎ (eqb from b ≡ false) → (from + 1 ≤ b → b < from + 1 + n → total f (range_with_len (from + 1) n) ≡ f b) → flip (f from) (total f (range_with_len (from + 1) n)) ≡ f b
     go (inl e) ih =

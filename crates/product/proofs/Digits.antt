@@ -1,11 +1,12 @@
 -- Binary digits: how many ones a word has, its lowest one, the word without it, and the word with one more.
 use Rattle.std.proofs.Common.{◌≡◌, ℕ, zero, suc, ◌+◌, ◌-◌, ◌*◌, ◌/◌, ◌%◌, ◌^◌, ◌<◌, ◌≤◌, min, max, Bool, true, false, ◌||◌, eqb, ◌⊎◌, List, [], ◌∷◌, length, sym, refl, ap, ◌∙◌, subst, inl, inr, pow-suc, add-one, arith, shr_lt, eq-eqb, ne_eqb, eqb-true}
+use Rattle.std.proofs.lemmas.Bool.{cases_Bool}
 use lib.Bits.{bit_and, bit_or, and_step, or_step, and_self, or_zero_r}
 use lib.Count.{ones_step, count_trailing_zeros, under}
 use lib.Count.{ones as onesOf, ones_in}
 use borrow.Author.Tests.{eqb-false}
 use Rattle.sets.specs.Sets.{has, size, elements_from, elements}
-use Rattle.sets.proofs.Bits.{either, same}
+use Rattle.sets.proofs.Bits.{same}
 use Rattle.sets.proofs.Numbers.{length_elements}
 use Rattle.sets.proofs.Sizes.{size_length}
 use Rattle.product.specs.Words.{digits, ones}
@@ -70,7 +71,7 @@ trailing_even f w e = ap (λ d. under d (count_trailing_zeros f (w / 2))) e
 
 pub lowest_one : (f from w : ℕ) → 0 < w → w < 2 ^ f → Lowest f from w
 lowest_one zero from w some low = absurd (omega arith)
-lowest_one (suc f) from w some low = go (either (eqb (w % 2) 1)) (λ h. lowest_one f (from + 1) (w / 2) h (half f w low))
+lowest_one (suc f) from w some low = go (cases_Bool (eqb (w % 2) 1)) (λ h. lowest_one f (from + 1) (w / 2) h (half f w low))
   where
     go : (eqb (w % 2) 1 ≡ true) ⊎ (eqb (w % 2) 1 ≡ false) → (0 < w / 2 → Lowest f (from + 1) (w / 2)) → Lowest (suc f) from w
     go (inl e) ih =

@@ -3,9 +3,8 @@ use Rattle.std.proofs.Common.{◌≡◌, ℕ, ◌+◌, ◌*◌, ◌<◌, ◌≤�
 use Rattle.std.specs.List.{range_with_len}
 use Rattle.std.proofs.lemmas.List.FromFn.{length-map-range_with_len, get_or-map-range_with_len}
 use Rattle.std.proofs.lemmas.List.{get_or_past}
-use Rattle.std.proofs.lemmas.Bool.{cases_lt}
+use Rattle.std.proofs.lemmas.Bool.{cases_lt, false_from_ne_true}
 use Rattle.sets.specs.Sets.{has, row, elements}
-use Rattle.sets.proofs.Bits.{deny}
 use Rattle.sets.proofs.Numbers.{elements_same}
 use Rattle.meaning.specs.Product.{column, check_told, generator_told}
 use Rattle.meaning.proofs.Product.{column_has}
@@ -22,7 +21,7 @@ part_is f w first step h e₀ e₁ e₂ same el = (λ i. map (λ x. e₁ i + x *
 module _ (p : Product) where
   -- what lies outside the seed is not 1
   off : (a b : ℕ) → (a < p.rows → b < p.columns → ⊥) → one_at p.row_words a b ≡ false
-  off a b h = deny (one_at p.row_words a b) (λ e. let i = p.inside a b e in h i.0 i.1)
+  off a b h = false_from_ne_true (one_at p.row_words a b) (λ e. let i = p.inside a b e in h i.0 i.1)
 
   seed_row : (a : ℕ) → a < p.rows → row (seed p) a ≡ map (λ b. one_at p.row_words a b) (range_with_len 0 p.columns)
   seed_row a h = get_or-map-range_with_len (λ a. map (λ b. one_at p.row_words a b) (range_with_len 0 p.columns)) 0 p.rows a a [] h (omega arith)

@@ -3,8 +3,8 @@ use Rattle.std.proofs.Common.{◌≡◌, ℕ, zero, suc, ◌+◌, ◌<◌, ◌�
 use mathlib.Core.Bool.{false≢true}
 use borrow.Author.Tests.{eqb-false, lt-leb}
 use Rattle.std.proofs.lemmas.List.{take_more}
+use Rattle.std.proofs.lemmas.Bool.{cases_Bool, and_parts, or_cases, or_parts, or_from}
 use Rattle.sets.specs.Sets.{has}
-use Rattle.sets.proofs.Bits.{either, and_both, or_cases, or_none, or_neither}
 use Rattle.product.specs.declared.place.Place.{Place}
 use Rattle.terms.specs.declared.refusal.Refusal.TheVariants.{OutsideLimits, NotRising}
 use Rattle.product.specs.Seed.{size_outside, outside, some_outside, rising_from, seed_fault, marked}
@@ -30,7 +30,7 @@ marked_more a b l i h = ap (marked a b) (take_more l i origin h) ∙ marked_push
 
 -- the word numbered k gets a one at place j: what the table has then
 pub one_more_lem : (words : List ℕ) (k j w : ℕ) → k < length words → ((i : ℕ) → has (ones w) i ≡ (eqb i j || has (ones (get_or words k 0)) i)) → (a b : ℕ) → one_at (set words k w) a b ≡ ((eqb a k && eqb b j) || one_at words a b)
-one_more_lem words k j w h e a b = go (either (eqb a k))
+one_more_lem words k j w h e a b = go (cases_Bool (eqb a k))
   where
     go : (eqb a k ≡ true) ⊎ (eqb a k ≡ false) → one_at (set words k w) a b ≡ ((eqb a k && eqb b j) || one_at words a b)
     go (inl t) =
@@ -52,10 +52,10 @@ no_ones n a b = ap (λ w. has (ones w) b) (no_word n a) ∙ ones_none b
 pub outside_wider : (r n r' n' : ℕ) → r ≤ r' → n ≤ n' → (l : List Place) → some_outside r n l ≡ false → some_outside r' n' l ≡ false
 outside_wider r n r' n' hr hn [] e = refl
 outside_wider r n r' n' hr hn (p ∷ l) e =
-    let o = or_none (outside r n p) (some_outside r n l) e in
-    let q = or_none (leb r p.row) (leb n p.column) o.0 in
-    or_neither (outside r' n' p) (some_outside r' n' l)
-    (or_neither (leb r' p.row) (leb n' p.column) (lt-leb r' p.row (omega (arith, leb-false r p.row q.0))) (lt-leb n' p.column (omega (arith, leb-false n p.column q.1))))
+    let o = or_parts (outside r n p) (some_outside r n l) e in
+    let q = or_parts (leb r p.row) (leb n p.column) o.0 in
+    or_from (outside r' n' p) (some_outside r' n' l)
+    (or_from (leb r' p.row) (leb n' p.column) (lt-leb r' p.row (omega (arith, leb-false r p.row q.0))) (lt-leb n' p.column (omega (arith, leb-false n p.column q.1))))
     (outside_wider r n r' n' hr hn l o.1)
 
 -- a marked entry lies where every place does
@@ -64,21 +64,21 @@ marked_inside r n [] e a b m = absurd (false≢true m)
 marked_inside r n (p ∷ l) e a b m = go (or_cases (eqb a p.row && eqb b p.column) (marked a b l) m) (marked_inside r n l o.1 a b)
   where
     o : (outside r n p ≡ false) × (some_outside r n l ≡ false)
-    o = or_none (outside r n p) (some_outside r n l) e
+    o = or_parts (outside r n p) (some_outside r n l) e
 
     go : ((eqb a p.row && eqb b p.column) ≡ true) ⊎ (marked a b l ≡ true) → (marked a b l ≡ true → (a < r) × (b < n)) → (a < r) × (b < n)
     go (inl t) ih =
-        let q = or_none (leb r p.row) (leb n p.column) o.0 in
-        let z = and_both (eqb a p.row) (eqb b p.column) t in
+        let q = or_parts (leb r p.row) (leb n p.column) o.0 in
+        let z = and_parts (eqb a p.row) (eqb b p.column) t in
         (omega (arith, leb-false r p.row q.0, eqb-true a p.row z.0), omega (arith, leb-false n p.column q.1, eqb-true b p.column z.1))
     go (inr t) ih = ih t
 
 pub size_inside : (k : ℕ) → size_outside k ≡ false → (1 ≤ k) × (k ≤ 32)
-size_inside k e = let o = or_none (ltb k 1) (ltb 32 k) e in (ltb-false k 1 o.0, ltb-false 32 k o.1)
+size_inside k e = let o = or_parts (ltb k 1) (ltb 32 k) e in (ltb-false k 1 o.0, ltb-false 32 k o.1)
 
 pub seed_taken : (r n : ℕ) (l : List Place) → size_outside r ≡ false → size_outside n ≡ false → some_outside r n l ≡ false → rising_from None l ≡ true → seed_fault r n l ≡ None
 seed_taken r n l p q o e =
-    ap (λ t. cond t (Some OutsideLimits) (cond (rising_from None l) None (Some NotRising))) (or_neither (size_outside r) (size_outside n || some_outside r n l) p (or_neither (size_outside n) (some_outside r n l) q o))
+    ap (λ t. cond t (Some OutsideLimits) (cond (rising_from None l) None (Some NotRising))) (or_from (size_outside r) (size_outside n || some_outside r n l) p (or_from (size_outside n) (some_outside r n l) q o))
     ∙ ap (λ t. cond t None (Some NotRising)) e
 
 -- the other way round
@@ -87,7 +87,7 @@ pub record Taken (r n : ℕ) : Type 0 where
   pub columns : (1 ≤ n) × (n ≤ 32)
 
 pub taken_sizes : (r n : ℕ) (l : List Place) → seed_fault r n l ≡ None → Taken r n
-taken_sizes r n l e = go (either (size_outside r || (size_outside n || some_outside r n l)))
+taken_sizes r n l e = go (cases_Bool (size_outside r || (size_outside n || some_outside r n l)))
   where
     go : ((size_outside r || (size_outside n || some_outside r n l)) ≡ true) ⊎ ((size_outside r || (size_outside n || some_outside r n l)) ≡ false) → Taken r n
     go (inl t) =
@@ -95,6 +95,6 @@ taken_sizes r n l e = go (either (size_outside r || (size_outside n || some_outs
         let z : ◌≡◌ {A = ℕ} 0 1 = cc in
         absurd (omega arith)
     go (inr t) =
-        let o = or_none (size_outside r) (size_outside n || some_outside r n l) t in
-        let q = or_none (size_outside n) (some_outside r n l) o.1 in
+        let o = or_parts (size_outside r) (size_outside n || some_outside r n l) t in
+        let q = or_parts (size_outside n) (some_outside r n l) o.1 in
         record { rows = size_inside r o.0; columns = size_inside n q.0 }

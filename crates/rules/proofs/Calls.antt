@@ -1,9 +1,9 @@
 -- Each call is a move.
 use Rattle.std.proofs.Common.{◌≡◌, ℕ, ◌≤◌, Bool, true, false, cond, not, eqb, ltb, List, [], ◌∷◌, length, Ok, Result, sym, refl, ap, subst, inl, ltb-false, ltb-true, eqb-true}
+use Rattle.std.proofs.lemmas.Bool.{and_parts, or_parts, not-true, not-false}
 use Rattle.terms.specs.declared.refusal.Refusal.{Refusal}
 use Rattle.sets.specs.Lists.{In}
 use Rattle.sets.specs.Sets.{has, any, size, lowest}
-use Rattle.sets.proofs.Bits.{and_both, or_none, not_true, not_false}
 use Rattle.meaning.specs.Meaning.{Meaning}
 use Rattle.rules.specs.declared.answers.Cluster.TheVariants.{Shelved, Flipped}
 use Rattle.rules.specs.Reports.{some_past, product, Named}
@@ -19,21 +19,21 @@ module _ (M : Meaning) where
   all_named : (l : List ℕ) → some_past (length M.generators) l ≡ false → Named M l
   all_named [] e = tt
   all_named (g ∷ l) e =
-      let b = or_none (not (ltb g (length M.generators))) (some_past (length M.generators) l) e in
-      (ltb-true g (length M.generators) (not_false (ltb g (length M.generators)) b.0), all_named l b.1)
+      let b = or_parts (not (ltb g (length M.generators))) (some_past (length M.generators) l) e in
+      (ltb-true g (length M.generators) (not-false (ltb g (length M.generators)) b.0), all_named l b.1)
 
   peel_move : (s : State) (slip c : ℕ) → Move M s (peel M s slip c).1
   peel_move s slip c = guarded (peel_bars M s slip c) s _ (Move M s) (stays refl) (λ k.
-      let b = and_both (not (has s.closed c)) (eqb (size (held M s c)) 1) (not_false (dangling M s c) k.1.1.0) in
-      peels c k.1.0 (not_true (has s.closed c) b.0) (eqb-true (size (held M s c)) 1 b.1) refl)
+      let b = and_parts (not (has s.closed c)) (eqb (size (held M s c)) 1) (not-false (dangling M s c) k.1.1.0) in
+      peels c k.1.0 (not-true (has s.closed c) b.0) (eqb-true (size (held M s c)) 1 b.1) refl)
 
   prune_move : (s : State) (slip q : ℕ) (l : List ℕ) → Move M s (prune M s slip q l).1
   prune_move s slip q l = guarded (prune_bars M s slip q l) s _ (Move M s) (stays refl) (λ k.
-      prunes q l k.1.1.1.0 (all_named l k.1.0) k.1.1.1.1.0 (not_false (has (product M l) q) k.1.1.1.1.1.0) refl)
+      prunes q l k.1.1.1.0 (all_named l k.1.0) k.1.1.1.1.0 (not-false (has (product M l) q) k.1.1.1.1.1.0) refl)
 
   solve_move : (s : State) (slip q : ℕ) (scratch : List ℕ) → Move M s (solve M s slip q scratch).1
   solve_move s slip q scratch = guarded (solve_bars M s q scratch (cluster M s q) (connects M s q)) s _ (Move M s) (stays refl) (λ k.
-      go k.1.1.1.0 (not_false (has s.erased q) k.1.1.1.1.0) (ltb-false 1 (size (connects M s q)) k.1.1.1.1.1.0) (free M s (cluster M s q) (connects M s q)) refl (solve_from M s q) refl)
+      go k.1.1.1.0 (not-false (has s.erased q) k.1.1.1.1.0) (ltb-false 1 (size (connects M s q)) k.1.1.1.1.1.0) (free M s (cluster M s q) (connects M s q)) refl (solve_from M s q) refl)
     where
       done : (v : s.void ≡ false) → has s.erased q ≡ true → size (connects M s q) ≤ 1 → (z : List Bool) (found : List (List Bool)) → solve_from M s q ≡ z ∷ found → (b : Bool) → free M s (cluster M s q) (connects M s q) ≡ b
           → let r : Result _ Refusal × State = cond b (Ok Shelved, shelve (cluster M s q) (lowest (connects M s q)) s) (Ok Flipped, choose M (cluster M s q) z (z ∷ found) s) in Move M s r.1

@@ -1,11 +1,12 @@
 -- A cluster lies in the erased qubits of its side, and holds each of those that an open check holds together with one of its qubits.
 use Rattle.std.proofs.Common.{◌≡◌, ℕ, zero, suc, ◌+◌, ◌<◌, ◌≤◌, Bool, true, false, cond, not, ◌&&◌, ◌||◌, ◌⊎◌, List, [], ◌∷◌, map, length, drop, sym, refl, ap, ◌∙◌, inl, inr, true≢false, arith}
+use Rattle.std.proofs.lemmas.Bool.{cases_Bool, and_parts, and_from, or_cases, or_left, or_right, not-true, not_from_false}
 use mathlib.Core.Bool.{false≢true}
 use lib.ListN.{length-map}
 use Rattle.sets.specs.Bits.{flip, alike}
 use Rattle.sets.specs.Lists.{In}
 use Rattle.sets.specs.Sets.{has, row, over, meet, only, size, meets, holders}
-use Rattle.sets.proofs.Bits.{either, clash, and_both, and_pair, or_cases, or_left, or_right, not_true, false_not}
+use Rattle.sets.proofs.Bits.{clash}
 use Rattle.sets.proofs.Sets.{has_join, has_meet, has_less, has_below, has_holders, has_meets, meets_some, only_self, only_other, length_only, length_over}
 use Rattle.meaning.specs.Meaning.{Meaning, Sound, qubits}
 use Rattle.rules.specs.States.{State}
@@ -74,20 +75,20 @@ module _ (M : Meaning) (sound : Sound M) (s : State) (erased_long : length s.era
 
   -- an open check that holds one of k
   pub is_touched : (k : List Bool) (d i : ℕ) → has s.closed d ≡ false → has (row M.checks d) i ≡ true → has k i ≡ true → has (touched M s k) d ≡ true
-  is_touched k d i o p q = has_touched k d ∙ and_pair (has_meets (row M.checks d) k i p q) (false_not (has s.closed d) o)
+  is_touched k d i o p q = has_touched k d ∙ and_from _ _ (has_meets (row M.checks d) k i p q) (not_from_false (has s.closed d) o)
 
   pub of_touched : (k : List Bool) (d : ℕ) → has (touched M s k) d ≡ true → (has s.closed d ≡ false) × (i : ℕ) × (has (row M.checks d) i ≡ true) × (has k i ≡ true)
   of_touched k d e =
-      let r = and_both (meets (row M.checks d) k) (not (has s.closed d)) (sym (has_touched k d) ∙ e) in
+      let r = and_parts (meets (row M.checks d) k) (not (has s.closed d)) (sym (has_touched k d) ∙ e) in
       let m = meets_some (row M.checks d) k r.0 in
-      (not_true (has s.closed d) r.1, m.0, m.1, m.2)
+      (not-true (has s.closed d) r.1, m.0, m.1, m.2)
 
   module _ (q : ℕ) (on : has s.erased q ≡ true) where
     below : (i : ℕ) → has s.erased i ≡ true → i < length M.sides
     below i e = let h : i < length s.erased = has_below s.erased i e in omega (arith, erased_long)
 
     pub side_cases : (i : ℕ) → has s.erased i ≡ true → (has (same_side M s q) i ≡ true) ⊎ (has (other_side M s q) i ≡ true)
-    side_cases i e = go (either (alike (has M.sides q) (has M.sides i)))
+    side_cases i e = go (cases_Bool (alike (has M.sides q) (has M.sides i)))
       where
         differ : (a b : Bool) → alike a b ≡ false → flip a b ≡ true
         differ true true h = absurd (true≢false h)
@@ -96,14 +97,14 @@ module _ (M : Meaning) (sound : Sound M) (s : State) (erased_long : length s.era
         differ false false h = absurd (true≢false h)
 
         go : (alike (has M.sides q) (has M.sides i) ≡ true) ⊎ (alike (has M.sides q) (has M.sides i) ≡ false) → (has (same_side M s q) i ≡ true) ⊎ (has (other_side M s q) i ≡ true)
-        go (inl t) = inl (has_meet s.erased (map (alike (has M.sides q)) M.sides) i ∙ and_pair e (has_map_in (alike (has M.sides q)) M.sides i (below i e) ∙ t))
-        go (inr t) = inr (has_meet s.erased (map (flip (has M.sides q)) M.sides) i ∙ and_pair e (has_map_in (flip (has M.sides q)) M.sides i (below i e) ∙ differ (has M.sides q) (has M.sides i) t))
+        go (inl t) = inl (has_meet s.erased (map (alike (has M.sides q)) M.sides) i ∙ and_from _ _ e (has_map_in (alike (has M.sides q)) M.sides i (below i e) ∙ t))
+        go (inr t) = inr (has_meet s.erased (map (flip (has M.sides q)) M.sides) i ∙ and_from _ _ e (has_map_in (flip (has M.sides q)) M.sides i (below i e) ∙ differ (has M.sides q) (has M.sides i) t))
 
     pub side_erased : (i : ℕ) → has (same_side M s q) i ≡ true → has s.erased i ≡ true
-    side_erased i e = (and_both (has s.erased i) (has (map (alike (has M.sides q)) M.sides) i) (sym (has_meet s.erased (map (alike (has M.sides q)) M.sides) i) ∙ e)).0
+    side_erased i e = (and_parts (has s.erased i) (has (map (alike (has M.sides q)) M.sides) i) (sym (has_meet s.erased (map (alike (has M.sides q)) M.sides) i) ∙ e)).0
 
     pub self_side : has (same_side M s q) q ≡ true
-    self_side = has_meet s.erased (map (alike (has M.sides q)) M.sides) q ∙ and_pair on (has_map_in (alike (has M.sides q)) M.sides q (below q on) ∙ own (has M.sides q))
+    self_side = has_meet s.erased (map (alike (has M.sides q)) M.sides) q ∙ and_from _ _ on (has_map_in (alike (has M.sides q)) M.sides q (below q on) ∙ own (has M.sides q))
       where
         own : (b : Bool) → alike b b ≡ true
         own true = refl
@@ -137,7 +138,7 @@ module _ (M : Meaning) (sound : Sound M) (s : State) (erased_long : length s.era
         keep x h i e =
             elim (or_cases (has x i) (has (meet (same_side M s q) (spanned M.checks (touched M s x))) i) (sym (has_join x (meet (same_side M s q) (spanned M.checks (touched M s x))) i) ∙ e)) [
               | inl p ↦ h i p
-              | inr p ↦ (and_both (has (same_side M s q) i) (has (spanned M.checks (touched M s x)) i) (sym (has_meet (same_side M s q) (spanned M.checks (touched M s x)) i) ∙ p)).0
+              | inr p ↦ (and_parts (has (same_side M s q) i) (has (spanned M.checks (touched M s x)) i) (sym (has_meet (same_side M s q) (spanned M.checks (touched M s x)) i) ∙ p)).0
             ]
 
     pub cluster_erased : (i : ℕ) → has (cluster M s q) i ≡ true → has s.erased i ≡ true
@@ -148,13 +149,13 @@ module _ (M : Meaning) (sound : Sound M) (s : State) (erased_long : length s.era
         ap (λ y. has y i) (sym (rests (qubits M) (grown M s (same_side M s q)) step_long step_more (only (qubits M) q) start_long q start_has))
         ∙ has_join (cluster M s q) (meet (same_side M s q) (spanned M.checks (touched M s (cluster M s q)))) i
         ∙ or_right (has (cluster M s q) i) (has (meet (same_side M s q) (spanned M.checks (touched M s (cluster M s q)))) i)
-        (has_meet (same_side M s q) (spanned M.checks (touched M s (cluster M s q))) i ∙ and_pair e (in_spanned M.checks (touched M s (cluster M s q)) d i t p))
+        (has_meet (same_side M s q) (spanned M.checks (touched M s (cluster M s q))) i ∙ and_from _ _ e (in_spanned M.checks (touched M s (cluster M s q)) d i t p))
 
     -- an internal check of the cluster holds no other erased qubit
     pub internal_apart : (d i : ℕ) → has (internal M s q (cluster M s q)) d ≡ true → has (row M.checks d) i ≡ true → has s.erased i ≡ true → has (cluster M s q) i ≡ true
     internal_apart d i t p e =
-        let r = and_both (has (touched M s (cluster M s q)) d) (not (has (connecting M s q (cluster M s q)) d)) (sym (has_less (touched M s (cluster M s q)) (connecting M s q (cluster M s q)) d) ∙ t) in
+        let r = and_parts (has (touched M s (cluster M s q)) d) (not (has (connecting M s q (cluster M s q)) d)) (sym (has_less (touched M s (cluster M s q)) (connecting M s q (cluster M s q)) d) ∙ t) in
         elim (side_cases i e) [
           | inl a ↦ cluster_closed d i r.0 p a
-          | inr a ↦ absurd (clash (has_meet (touched M s (cluster M s q)) (holders M.checks (other_side M s q)) d ∙ and_pair r.0 (has_holders M.checks (other_side M s q) d ∙ has_meets (row M.checks d) (other_side M s q) i p a)) (not_true (has (connecting M s q (cluster M s q)) d) r.1))
+          | inr a ↦ absurd (clash (has_meet (touched M s (cluster M s q)) (holders M.checks (other_side M s q)) d ∙ and_from _ _ r.0 (has_holders M.checks (other_side M s q) d ∙ has_meets (row M.checks d) (other_side M s q) i p a)) (not-true (has (connecting M s q (cluster M s q)) d) r.1))
         ]

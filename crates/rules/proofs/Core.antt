@@ -1,10 +1,11 @@
 -- What stays true of a trial that is not void: what is left to explain, against the report that it was opened on.
 use Rattle.std.proofs.Common.{◌≡◌, ℕ, ◌+◌, ◌*◌, ◌^◌, Bool, true, false, not, ◌&&◌, eqb, ◌⊎◌, List, [], ◌∷◌, ◌++◌, length, sym, refl, ap, ◌∙◌, subst, inl, inr, mul_assoc, mul-zero, arith, pow-add}
+use Rattle.std.proofs.lemmas.Bool.{and_parts, false_from_ne_true}
 use lib.ListN.{length-map, length-replicate}
 use Rattle.sets.specs.Bits.{flip}
 use Rattle.sets.specs.Sets.{odd, has, row, plus}
 use Rattle.sets.specs.Lists.{In, Exactly}
-use Rattle.sets.proofs.Bits.{clash, and_both, deny, flip_cases, flip_self, flip_assoc, flip_false, flip_four}
+use Rattle.sets.proofs.Bits.{clash, flip_cases, flip_self, flip_assoc, flip_false, flip_four}
 use Rattle.sets.proofs.Sets.{has_plus, has_empty, length_over, ext, within_length, within_has, has_within, has_mapped, odd_plus, odd_nil, odd_empty, row_in, row_of}
 use Rattle.sets.proofs.Numbers.{eqb_same}
 use Rattle.meaning.specs.Meaning.{Meaning, Sound, qubits}
@@ -95,7 +96,7 @@ module _ (M : Meaning) (sound : Sound M) where
       and_false true = refl
       and_false false = refl
   chain_snoc lost U (g ∷ G) x c m u l h = (
-    (c.0.0, c.0.1, c.0.2, ap (λ b. b && not (eqb x.pruned g.pruned)) c.0.3, avoids_snoc g.pruned G x c.0.4 (deny (has (product M x.list) g.pruned) (λ e. clash (u g.pruned e) c.0.3))),
+    (c.0.0, c.0.1, c.0.2, ap (λ b. b && not (eqb x.pruned g.pruned)) c.0.3, avoids_snoc g.pruned G x c.0.4 (false_from_ne_true (has (product M x.list) g.pruned) (λ e. clash (u g.pruned e) c.0.3))),
     chain_snoc lost U G x c.1 m u l h,
   )
 
@@ -157,7 +158,7 @@ module _ (M : Meaning) (sound : Sound M) where
             record {
               long = length_over flip X z (qubits M) h.long solves.under.long;
               lost = λ i q. inside i (flip_cases (has X i) (has z i) (sym (has_plus X z i) ∙ q));
-              still = λ i q. h.still i (and_both (U i) (not (K i)) q).0;
+              still = λ i q. h.still i (and_parts (U i) (not (K i)) q).0;
               told = λ d. ap (λ t. flip t (flip (s d) (odd (row M.checks d) z))) (odd_plus (row M.checks d) X z)
                   ∙ flip_four (odd (row M.checks d) X) (odd (row M.checks d) z) (s d) (odd (row M.checks d) z)
                   ∙ ap (flip (flip (odd (row M.checks d) X) (s d))) (flip_self (odd (row M.checks d) z))

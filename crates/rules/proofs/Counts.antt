@@ -1,9 +1,9 @@
 -- What is counted was lost: peeled, pruned and chosen, with what is still erased or shelved, are no more than the lost qubits.
 use Rattle.std.proofs.Common.{◌≡◌, ℕ, zero, suc, ◌+◌, ◌/◌, ◌^◌, ◌<◌, ◌≤◌, Bool, true, false, leb, List, [], ◌∷◌, map, length, sym, refl, ap, ◌∙◌, subst, arith, length-append, leb-false}
+use Rattle.std.proofs.lemmas.Bool.{and_parts, or_left}
 use native.Mathlib.Nat.{two-pow-succ}
 use lib.ListN.{length-map}
 use Rattle.sets.specs.Sets.{has, row, less, only, empty, size}
-use Rattle.sets.proofs.Bits.{and_both, or_left}
 use Rattle.sets.proofs.Sets.{has_meet, has_below, only_other, only_self, length_only}
 use Rattle.meaning.specs.Meaning.{Meaning, Sound, qubits}
 use Rattle.linear.specs.System.{keep, keep_if}
@@ -71,7 +71,7 @@ module _ (M : Meaning) (sound : Sound M) (R : Report) (for : For M R) where
   step s t (peels c v o one e) h =
       let i : Inv M sound R for s = live M sound R for s v h in
       subst (λ (x : State). total x ≤ total s) (sym e) (finished s (held M s c) 1 0 0 (i.erased_long ∙ sym (held_long M sound R for s i c o one))
-      (λ j q. (and_both (has (row M.checks c) j) (has s.erased j) (sym (has_meet (row M.checks c) s.erased j) ∙ q)).1) (omega arith))
+      (λ j q. (and_parts (has (row M.checks c) j) (has s.erased j) (sym (has_meet (row M.checks c) s.erased j) ∙ q)).1) (omega arith))
   step s t (prunes q l v named out on e) h =
       let i : Inv M sound R for s = live M sound R for s v h in
       let here : has s.erased q ≡ true = product_erased M s.erased l out q on in

@@ -2,11 +2,12 @@
 use Rattle.std.proofs.Common.{◌≡◌, ℕ, ◌<◌, ◌≤◌, Bool, true, false, cond, not, ◌||◌, eqb, ltb, ◌⊎◌, List, [], ◌∷◌, length, take, Ok, Result, sym, refl, ap, ◌∙◌, subst, inl, inr, arith, lt-ltb, eqb-true}
 use mathlib.Core.Option.{Option, none, some}
 use Rattle.std.specs.List.{range_with_len}
+use Rattle.std.proofs.lemmas.Bool.{false_from_ne_true, and_parts, and_from, or_left, not-true}
 use Rattle.terms.specs.declared.refusal.Refusal.{Refusal}
 use Rattle.terms.specs.declared.refusal.Refusal.TheVariants.{QubitTooLarge, NothingErased, SeveralConnecting, TooManyUnknowns}
 use Rattle.sets.specs.Bits.{flip}
 use Rattle.sets.specs.Sets.{has, row, meet, less, empty, only, any, size, lowest, within}
-use Rattle.sets.proofs.Bits.{clash, deny, and_both, and_pair, or_left, not_true, flip_false}
+use Rattle.sets.proofs.Bits.{clash, flip_false}
 use Rattle.sets.proofs.Sets.{has_join, has_meet, has_plus, has_empty, has_below, only_self, any_some, within_has}
 use Rattle.sets.proofs.Numbers.{eqb_same}
 use Rattle.meaning.specs.Meaning.{Meaning, qubits}
@@ -44,8 +45,8 @@ module _ (M : Meaning) (s : State) (live : s.void ≡ false) where
     where
       fewer : size (less s.erased (held M s c)) < size s.erased
       fewer =
-          let o = one_of (held M s c) (eqb-true (size (held M s c)) 1 (and_both (not (has s.closed c)) (eqb (size (held M s c)) 1) p).1) in
-          size_fewer s.erased (held M s c) o.0 (and_both (has (row M.checks c) o.0) (has s.erased o.0) (sym (has_meet (row M.checks c) s.erased o.0) ∙ o.1)).1 o.1
+          let o = one_of (held M s c) (eqb-true (size (held M s c)) 1 (and_parts (not (has s.closed c)) (eqb (size (held M s c)) 1) p).1) in
+          size_fewer s.erased (held M s c) o.0 (and_parts (has (row M.checks c) o.0) (has s.erased o.0) (sym (has_meet (row M.checks c) s.erased o.0) ∙ o.1)).1 o.1
 
   prune_fewer : (g : ℕ) → all_erased M s g ≡ true → g < length M.generators → length s.erased ≡ qubits M
       → Fewer (prune M s s.number (lowest (row M.generators g)) (g ∷ [])).1
@@ -60,7 +61,7 @@ module _ (M : Meaning) (s : State) (live : s.void ≡ false) where
       (inr (size_fewer s.erased (only (qubits M) q) q erased_q (only_self (qubits M) q below)))
     where
       b : (any (row M.generators g) ≡ true) × (within (row M.generators g) s.erased ≡ true)
-      b = and_both (any (row M.generators g)) (within (row M.generators g) s.erased) p
+      b = and_parts (any (row M.generators g)) (within (row M.generators g) s.erased) p
 
       q : ℕ
       q = lowest (row M.generators g)
@@ -87,7 +88,7 @@ module _ (M : Meaning) (s : State) (live : s.void ≡ false) where
   solve_fewer scratch clean q p h = allowed (solve_bars M s q scratch (cluster M s q) (connects M s q)) s after Fewer (c.0, (c.1.0, (c.1.1.0, (c.1.1.1.0, (c.1.1.1.1.0, (few, (small, tt))))))) (go (free M s (cluster M s q) (connects M s q)) (solve_from M s q))
     where
       b : (has s.erased q ≡ true) × (not (passed_over (solve M s s.number q scratch).0) ≡ true)
-      b = and_both (has s.erased q) (not (passed_over (solve M s s.number q scratch).0)) p
+      b = and_parts (has s.erased q) (not (passed_over (solve M s s.number q scratch).0)) p
 
       after : Result Cluster Refusal × State
       after = solve_found M s s.number (cluster M s q) (connects M s q) (free M s (cluster M s q) (connects M s q)) (solve_from M s q)
@@ -105,10 +106,10 @@ module _ (M : Meaning) (s : State) (live : s.void ≡ false) where
       c = (below_test q (qubits M) h, (clean.0, (clean.1, (live, (ap not b.0, tt)))))
 
       goes_on : passed_over (unless (solve_bars M s q scratch (cluster M s q) (connects M s q)) s after).0 ≡ false
-      goes_on = not_true (passed_over (solve M s s.number q scratch).0) b.1
+      goes_on = not-true (passed_over (solve M s s.number q scratch).0) b.1
 
       few : ltb 1 (size (connects M s q)) ≡ false
-      few = deny (ltb 1 (size (connects M s q))) (λ e. clash (ap (λ (r : Result Cluster Refusal × State). passed_over r.0) (stopped front several (large ∷ []) s after c e)) goes_on)
+      few = false_from_ne_true (ltb 1 (size (connects M s q))) (λ e. clash (ap (λ (r : Result Cluster Refusal × State). passed_over r.0) (stopped front several (large ∷ []) s after c e)) goes_on)
 
       front' : List Bar
       front' = bar (not (ltb q (qubits M))) QubitTooLarge ∷ too_short M scratch ∷ in_use M scratch ∷ is_void s ∷ bar (not (has s.erased q)) NothingErased ∷ several ∷ []
@@ -117,7 +118,7 @@ module _ (M : Meaning) (s : State) (live : s.void ≡ false) where
       c' = (c.0, (c.1.0, (c.1.1.0, (c.1.1.1.0, (c.1.1.1.1.0, (few, tt))))))
 
       small : ltb 256 (size (cluster M s q)) ≡ false
-      small = deny (ltb 256 (size (cluster M s q))) (λ e. clash (ap (λ (r : Result Cluster Refusal × State). passed_over r.0) (stopped front' large [] s after c' e)) goes_on)
+      small = false_from_ne_true (ltb 256 (size (cluster M s q))) (λ e. clash (ap (λ (r : Result Cluster Refusal × State). passed_over r.0) (stopped front' large [] s after c' e)) goes_on)
 
       either_way : (f : Bool) (z : List Bool) (found : List (List Bool)) → let r : Result Cluster Refusal × State = cond f (Ok Shelved, shelve (cluster M s q) (lowest (connects M s q)) s) (Ok Flipped, choose M (cluster M s q) z (z ∷ found) s) in Fewer r.1
       either_way true z found = inr (size_fewer s.erased (cluster M s q) q b.0 (own_cluster q h))
@@ -129,14 +130,14 @@ module _ (M : Meaning) (s : State) (live : s.void ≡ false) where
 
   -- a sweep that is not passed over has at most 256 unknowns
   sweep_small : can_sweep M s ≡ true → ltb 256 (size s.erased) ≡ false
-  sweep_small p = deny (ltb 256 (size s.erased)) (λ e. clash (ap (λ (r : Result (Unit {0}) Refusal × State). passed_over r.0) (stopped (is_void s ∷ bar (not (any s.erased)) NothingErased ∷ []) (bar (ltb 256 (size s.erased)) TooManyUnknowns) [] s (sweep_found M s s.number (sweep_from M s)) (live, (ap not b.0, tt)) e)) (not_true (passed_over (sweep M s s.number).0) b.1))
+  sweep_small p = false_from_ne_true (ltb 256 (size s.erased)) (λ e. clash (ap (λ (r : Result (Unit {0}) Refusal × State). passed_over r.0) (stopped (is_void s ∷ bar (not (any s.erased)) NothingErased ∷ []) (bar (ltb 256 (size s.erased)) TooManyUnknowns) [] s (sweep_found M s s.number (sweep_from M s)) (live, (ap not b.0, tt)) e)) (not-true (passed_over (sweep M s s.number).0) b.1))
     where
       b : (any s.erased ≡ true) × (not (passed_over (sweep M s s.number).0) ≡ true)
-      b = and_both (any s.erased) (not (passed_over (sweep M s s.number).0)) p
+      b = and_parts (any s.erased) (not (passed_over (sweep M s s.number).0)) p
 
   -- with something erased, and at most 256 of it, a sweep is not passed over
   pub sweep_passes : any s.erased ≡ true → ltb 256 (size s.erased) ≡ false → can_sweep M s ≡ true
-  sweep_passes e small = and_pair e (ap not (ap (λ (r : Result (Unit {0}) Refusal × State). passed_over r.0) (passed (sweep_bars s) s (sweep_found M s s.number (sweep_from M s)) (live, (ap not e, (small, tt)))) ∙ go (sweep_from M s)))
+  sweep_passes e small = and_from _ _ e (ap not (ap (λ (r : Result (Unit {0}) Refusal × State). passed_over r.0) (passed (sweep_bars s) s (sweep_found M s s.number (sweep_from M s)) (live, (ap not e, (small, tt)))) ∙ go (sweep_from M s)))
     where
       go : (found : List (List Bool)) → passed_over (sweep_found M s s.number found).0 ≡ false
       go [] = refl
@@ -146,7 +147,7 @@ module _ (M : Meaning) (s : State) (live : s.void ≡ false) where
   sweep_fewer p = allowed (sweep_bars s) s _ Fewer (live, (ap not b.0, (sweep_small p, tt))) (go (sweep_from M s))
     where
       b : (any s.erased ≡ true) × (not (passed_over (sweep M s s.number).0) ≡ true)
-      b = and_both (any s.erased) (not (passed_over (sweep M s s.number).0)) p
+      b = and_parts (any s.erased) (not (passed_over (sweep M s s.number).0)) p
 
       go : (found : List (List Bool)) → Fewer (sweep_found M s s.number found).1
       go [] = let i = any_some s.erased b.0 in inl (refl, size_some s.erased i.0 i.1)

@@ -1,8 +1,9 @@
 -- A run with all stages on, with at most 256 lost qubits, leaves nothing erased or shelved unless the trial is void.
 use Rattle.std.proofs.Common.{◌≡◌, ℕ, ◌≤◌, Bool, true, false, cond, List, [], sym, refl, ap, ◌∙◌, inl, inr, arith, le-ltb}
+use Rattle.std.proofs.lemmas.Bool.{cases_Bool, false_from_ne_true, or_left}
 use mathlib.Core.Option.{none, some}
 use Rattle.sets.specs.Sets.{has, any, size}
-use Rattle.sets.proofs.Bits.{either, clash, deny, or_left}
+use Rattle.sets.proofs.Bits.{clash}
 use Rattle.sets.proofs.Sets.{any_some}
 use Rattle.meaning.specs.Meaning.{Meaning, Sound}
 use Rattle.rules.specs.Reports.{Report, For}
@@ -39,17 +40,17 @@ module _ (M : Meaning) (sound : Sound M) (R : Report) (for : For M R) (few : siz
       omega arith
 
   none_erased : can_sweep M s ≡ false → any s.erased ≡ false
-  none_erased idle = deny (any s.erased) (λ e. clash (sweep_passes M s v e (le-ltb 256 (size s.erased) at_most_256)) idle)
+  none_erased idle = false_from_ne_true (any s.erased) (λ e. clash (sweep_passes M s v e (le-ltb 256 (size s.erased) at_most_256)) idle)
 
   none_shelved : s.shelf ≡ [] → any s.shelved ≡ false
-  none_shelved e = deny (any s.shelved) (λ x. let i = any_some s.shelved x in clash i.1 (h.shelved_is i.0 ∙ ap (λ l. shelved_by l i.0) e))
+  none_shelved e = false_from_ne_true (any s.shelved) (λ x. let i = any_some s.shelved x in clash i.1 (h.shelved_is i.0 ∙ ap (λ l. shelved_by l i.0) e))
 
 pub full_run : FullRunEmpties
 full_run = always RunsEmpty (λ M sound R for number calls few slip scratch e q.
     let s : State = after M (opening M R number) calls in
     let t : State = (run M s slip 15 scratch).1 in
     let r = run_ends_with M sound R for s (after_truth M sound R for number calls) slip 15 scratch e q in
-    elim (either t.void) [
+    elim (cases_Bool t.void) [
       | inl v ↦ inl v
       | inr v ↦ elim r.1 [
         | inl w ↦ absurd (clash w v)

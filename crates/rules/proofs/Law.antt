@@ -1,11 +1,12 @@
 -- The law about calls.
 use Rattle.std.proofs.Common.{◌≡◌, ℕ, ◌+◌, ◌^◌, Bool, true, false, cond, ◌||◌, List, length, Ok, Err, Result, sym, refl, ap, ◌∙◌, subst, mul-one, arith}
+use Rattle.std.proofs.lemmas.Bool.{or_parts, false_from_ne_true}
 use lib.ListN.{length-replicate}
 use Rattle.terms.specs.declared.refusal.Refusal.{Refusal}
 use Rattle.sets.specs.Bits.{flip}
 use Rattle.sets.specs.Sets.{odd, has, row, plus, empty, any}
 use Rattle.sets.specs.Lists.{Exactly}
-use Rattle.sets.proofs.Bits.{clash, or_none, deny, flip_false}
+use Rattle.sets.proofs.Bits.{clash, flip_false}
 use Rattle.sets.proofs.Sets.{any_none, any_some, odd_empty, ext, has_empty}
 use Rattle.meaning.specs.Meaning.{Meaning, Sound, qubits}
 use Rattle.linear.proofs.Count.{exactly_one}
@@ -64,10 +65,10 @@ module _ (M : Meaning) (sound : Sound M) (R : Report) (for : For M R) where
   -- a close tells the truth
   module _ (s : State) (h : Inv M sound R for s) (off : (any s.erased || any s.shelved) ≡ false) where
     nothing_left : (i : ℕ) → left_of s i ≡ false
-    nothing_left i = let b = or_none (any s.erased) (any s.shelved) off in ap (λ t. t || has s.shelved i) (any_none s.erased b.0 i) ∙ any_none s.shelved b.1 i
+    nothing_left i = let b = or_parts (any s.erased) (any s.shelved) off in ap (λ t. t || has s.shelved i) (any_none s.erased b.0 i) ∙ any_none s.shelved b.1 i
 
     only_empty : (y : List Bool) → Under (qubits M) (left_of s) y → y ≡ empty (qubits M)
-    only_empty y u = ext y (empty (qubits M)) (u.long ∙ sym (length-replicate (qubits M) false)) (λ i. deny (has y i) (λ e. clash (u.inside i e) (nothing_left i)) ∙ sym (has_empty (qubits M) i))
+    only_empty y u = ext y (empty (qubits M)) (u.long ∙ sym (length-replicate (qubits M) false)) (λ i. false_from_ne_true (has y i) (λ e. clash (u.inside i e) (nothing_left i)) ∙ sym (has_empty (qubits M) i))
 
     odd_remains : any s.odds ≡ true → (e : List Bool) → ¬ Fits M R e
     odd_remains o = hopeless M sound R for h.core (λ y r. let d = any_some s.odds o in clash (r.told d.0 ∙ d.1) (ap (odd (row M.checks d.0)) (only_empty y r.under) ∙ odd_empty (row M.checks d.0) (qubits M)))

@@ -1,11 +1,12 @@
 -- A trial as it is opened, and one qubit pruned.
 use Rattle.std.proofs.Common.{◌≡◌, ℕ, ◌+◌, ◌*◌, ◌^◌, ◌<◌, Bool, true, false, not, ◌&&◌, ◌||◌, eqb, ◌⊎◌, List, [], ◌∷◌, ◌++◌, length, sym, refl, ap, ◌∙◌, subst, inl, inr, arith, length-append, eqb-true}
+use Rattle.std.proofs.lemmas.Bool.{cases_Bool, and_from, or_cases, or_left, false_from_ne_true, not_from_false, not-false}
 use mathlib.Core.Bool.{false≢true}
 use lib.ListN.{length-replicate}
 use Rattle.sets.specs.Bits.{flip}
 use Rattle.sets.specs.Sets.{odd, has, row, plus, empty, only}
 use Rattle.sets.specs.Lists.{In, Exactly}
-use Rattle.sets.proofs.Bits.{either, clash, and_pair, or_cases, or_left, deny, false_not, not_false, flip_cases}
+use Rattle.sets.proofs.Bits.{clash, flip_cases}
 use Rattle.sets.proofs.Sets.{has_plus, has_empty, has_below, length_over, ext, odd_plus, odd_empty, only_self, only_other, length_only}
 use Rattle.meaning.specs.Meaning.{Meaning, Sound, qubits}
 use Rattle.linear.proofs.Count.{exactly_iff}
@@ -55,7 +56,7 @@ module _ (M : Meaning) (sound : Sound M) (R : Report) (for : For M R) where
               record {
                 distinct = (λ m. elim m [ inl e ↦ clash (ap (λ x. has x q) e ∙ K-self) (has_empty (qubits M) q) | inr m' ↦ m' ], (λ m. m, tt));
                 sound = λ x m. record { under = within_one x m; told = λ d e. absurd (false≢true e) };
-                complete = λ x S. cases x S.under (either (has x q));
+                complete = λ x S. cases x S.under (cases_Bool (has x q));
               };
           count = refl;
         }
@@ -66,26 +67,26 @@ module _ (M : Meaning) (sound : Sound M) (R : Report) (for : For M R) where
         within_one x (inr (inr m)) = absurd m
 
         cases : (x : List Bool) → Under (qubits M) (has (only (qubits M) q)) x → (has x q ≡ true) ⊎ (has x q ≡ false) → In x (empty (qubits M) ∷ only (qubits M) q ∷ [])
-        cases x u (inl e) = inr (inl (ext x (only (qubits M) q) (u.long ∙ sym (length_only (qubits M) q)) (λ i. bit i (either (has x i)))))
+        cases x u (inl e) = inr (inl (ext x (only (qubits M) q) (u.long ∙ sym (length_only (qubits M) q)) (λ i. bit i (cases_Bool (has x i)))))
           where
             bit : (i : ℕ) → (has x i ≡ true) ⊎ (has x i ≡ false) → has x i ≡ has (only (qubits M) q) i
             bit i (inl t) = t ∙ sym (u.inside i t)
-            bit i (inr t) = t ∙ sym (deny (has (only (qubits M) q) i) (λ k. clash (ap (has x) (only_other (qubits M) q i k) ∙ e) t))
-        cases x u (inr e) = inl (ext x (empty (qubits M)) (u.long ∙ sym (length-replicate (qubits M) false)) (λ i. deny (has x i) (λ t. clash (ap (has x) (sym (only_other (qubits M) q i (u.inside i t))) ∙ t) e) ∙ sym (has_empty (qubits M) i)))
+            bit i (inr t) = t ∙ sym (false_from_ne_true (has (only (qubits M) q) i) (λ k. clash (ap (has x) (only_other (qubits M) q i k) ∙ e) t))
+        cases x u (inr e) = inl (ext x (empty (qubits M)) (u.long ∙ sym (length-replicate (qubits M) false)) (λ i. false_from_ne_true (has x i) (λ t. clash (ap (has x) (sym (only_other (qubits M) q i (u.inside i t))) ∙ t) e) ∙ sym (has_empty (qubits M) i)))
 
     sub : (i : ℕ) → has (only (qubits M) q) i ≡ true → U i ≡ true
     sub i e = ap U (only_other (qubits M) q i e) ∙ inside q holds
 
     fill : (x : List Bool) → Under (qubits M) (has (only (qubits M) q)) x → ((d : ℕ) → false ≡ true → odd (row M.checks d) x ≡ false)
         → (w : List Bool) × Under (qubits M) (rest U (has (only (qubits M) q))) w × ((d : ℕ) → odd (row M.checks d) w ≡ odd (row M.checks d) x)
-    fill x u _ = go (either (has x q))
+    fill x u _ = go (cases_Bool (has x q))
       where
         go : (has x q ≡ true) ⊎ (has x q ≡ false) → (w : List Bool) × Under (qubits M) (rest U (has (only (qubits M) q))) w × ((d : ℕ) → odd (row M.checks d) w ≡ odd (row M.checks d) x)
         go (inl e) = (
           plus (product M l) x,
           record {
             long = length_over flip (product M l) x (qubits M) (product_long M sound l named) u.long;
-            inside = λ i t. and_pair (into i (flip_cases (has (product M l) i) (has x i) (sym (has_plus (product M l) x i) ∙ t))) (false_not (has (only (qubits M) q) i) (deny (has (only (qubits M) q) i) (λ k. clash (sym (has_plus (product M l) x i) ∙ t) (both i (only_other (qubits M) q i k)))));
+            inside = λ i t. and_from _ _ (into i (flip_cases (has (product M l) i) (has x i) (sym (has_plus (product M l) x i) ∙ t))) (not_from_false (has (only (qubits M) q) i) (false_from_ne_true (has (only (qubits M) q) i) (λ k. clash (sym (has_plus (product M l) x i) ∙ t) (both i (only_other (qubits M) q i k)))));
           },
           λ d. odd_plus (row M.checks d) (product M l) x ∙ ap (λ t. flip t (odd (row M.checks d) x)) (product_even M sound l named d),
         )
@@ -111,5 +112,5 @@ module _ (M : Meaning) (sound : Sound M) (R : Report) (for : For M R) where
         (length-append h.cuts (record { list = l; pruned = q } ∷ []) ∙ ap (λ (t : ℕ). t + 1) h.cuts_many)
       where
         gone : (i : ℕ) (b : Bool) → (b && not (eqb q i)) ≡ false → (b && not (has (only (qubits M) q) i)) ≡ false
-        gone i true e = ap not (ap (has (only (qubits M) q)) (sym (eqb-true q i (not_false (eqb q i) e))) ∙ K-self)
+        gone i true e = ap not (ap (has (only (qubits M) q)) (sym (eqb-true q i (not-false (eqb q i) e))) ∙ K-self)
         gone i false e = refl

@@ -1,9 +1,10 @@
 -- A cluster is what is reached by touching.
 use Rattle.std.proofs.Common.{◌≡◌, ℕ, suc, ◌<◌, Bool, true, false, cond, ◌⊎◌, List, [], ◌∷◌, map, length, drop, sym, refl, ◌∙◌, subst, inl, inr, arith}
+use Rattle.std.proofs.lemmas.Bool.{and_parts, and_from, or_cases}
 use mathlib.Core.Bool.{false≢true}
 use Rattle.sets.specs.Bits.{alike}
 use Rattle.sets.specs.Sets.{has, row, meet, only}
-use Rattle.sets.proofs.Bits.{and_both, and_pair, or_cases, alike_same, same_alike}
+use Rattle.sets.proofs.Bits.{alike_same, same_alike}
 use Rattle.sets.proofs.Sets.{has_join, has_meet, has_below, only_other}
 use Rattle.meaning.specs.Meaning.{Meaning, Sound, qubits}
 use Rattle.rules.specs.States.{State}
@@ -27,7 +28,7 @@ of_spanned (c ∷ C) A i e = go (or_cases (has (cond (has A 0) c []) i) (has (sp
 module _ (M : Meaning) (sound : Sound M) (s : State) (long : length s.erased ≡ qubits M) (q : ℕ) (on : has s.erased q ≡ true) where
   side_is : (i : ℕ) → has (same_side M s q) i ≡ true → has M.sides q ≡ has M.sides i
   side_is i e =
-      let b = and_both (has s.erased i) (has (map (alike (has M.sides q)) M.sides) i) (sym (has_meet s.erased (map (alike (has M.sides q)) M.sides) i) ∙ e) in
+      let b = and_parts (has s.erased i) (has (map (alike (has M.sides q)) M.sides) i) (sym (has_meet s.erased (map (alike (has M.sides q)) M.sides) i) ∙ e) in
       let h : i < length s.erased = has_below s.erased i b.0 in
       let k : i < length M.sides = omega (arith, long) in
       alike_same (has M.sides q) (has M.sides i) (sym (has_map_in (alike (has M.sides q)) M.sides i k) ∙ b.1)
@@ -36,7 +37,7 @@ module _ (M : Meaning) (sound : Sound M) (s : State) (long : length s.erased ≡
   is_side i e o =
       let h : i < length s.erased = has_below s.erased i e in
       let k : i < length M.sides = omega (arith, long) in
-      has_meet s.erased (map (alike (has M.sides q)) M.sides) i ∙ and_pair e (has_map_in (alike (has M.sides q)) M.sides i k ∙ same_alike (has M.sides q) (has M.sides i) o)
+      has_meet s.erased (map (alike (has M.sides q)) M.sides) i ∙ and_from _ _ e (has_map_in (alike (has M.sides q)) M.sides i k ∙ same_alike (has M.sides q) (has M.sides i) o)
 
   abbrev All : List Bool → Type 0
   All y = (i : ℕ) → has y i ≡ true → (has (same_side M s q) i ≡ true) × Reached M s q i
@@ -47,7 +48,7 @@ module _ (M : Meaning) (sound : Sound M) (s : State) (long : length s.erased ≡
       go : (has y i ≡ true) ⊎ (has (meet (same_side M s q) (spanned M.checks (touched M s y))) i ≡ true) → (has (same_side M s q) i ≡ true) × Reached M s q i
       go (inl p) = h i p
       go (inr p) =
-          let b = and_both (has (same_side M s q) i) (has (spanned M.checks (touched M s y)) i) (sym (has_meet (same_side M s q) (spanned M.checks (touched M s y)) i) ∙ p) in
+          let b = and_parts (has (same_side M s q) i) (has (spanned M.checks (touched M s y)) i) (sym (has_meet (same_side M s q) (spanned M.checks (touched M s y)) i) ∙ p) in
           let d = of_spanned M.checks (touched M s y) i b.1 in
           let t = of_touched M sound s long y d.0 d.1 in
           let r = h t.1 t.3 in (

@@ -1,11 +1,12 @@
 -- The newest shelf entry is settled.
 use Rattle.std.proofs.Common.{◌≡◌, ℕ, zero, suc, Bool, true, false, not, ◌&&◌, ◌||◌, eqb, ◌⊎◌, List, [], ◌∷◌, length, set, sym, refl, ap, ◌∙◌, subst, inl, inr, length-set, get_or-set_other, eqb-true}
+use Rattle.std.proofs.lemmas.Bool.{cases_Bool, and_parts, and_from, or_cases, or_left, or_right, or_from, not-true, not_from_false, false_from_ne_true}
 use mathlib.Core.Bool.{false≢true}
 use lib.ListN.{length-map}
 use Rattle.sets.specs.Bits.{flip}
 use Rattle.sets.specs.Sets.{odd, has, row, less, plus, any}
 use Rattle.sets.specs.Lists.{In}
-use Rattle.sets.proofs.Bits.{either, clash, and_both, and_pair, or_cases, or_left, or_right, or_neither, not_true, false_not, deny, flip_cases, flip_false, flip_same}
+use Rattle.sets.proofs.Bits.{clash, flip_cases, flip_false, flip_same}
 use Rattle.sets.proofs.Sets.{has_plus, has_less, any_none, length_over, odd_nil, odd_apart, odd_plus}
 use Rattle.sets.proofs.Numbers.{eqb_same}
 use Rattle.meaning.specs.Meaning.{Meaning, Sound, qubits}
@@ -32,7 +33,7 @@ odd_some (b ∷ c) [] e = absurd (false≢true e)
 odd_some (b ∷ c) (x ∷ xs) e = go (flip_cases (b && x) (odd c xs) e) (odd_some c xs)
   where
     go : ((b && x) ≡ true) ⊎ (odd c xs ≡ true) → (odd c xs ≡ true → (i : ℕ) × (has c i ≡ true) × (has xs i ≡ true)) → (i : ℕ) × (has (b ∷ c) i ≡ true) × (has (x ∷ xs) i ≡ true)
-    go (inl p) ih = let r = and_both b x p in (0, r.0, r.1)
+    go (inl p) ih = let r = and_parts b x p in (0, r.0, r.1)
     go (inr p) ih = let r = ih p in (suc r.0, r.1, r.2)
 
 module _ (M : Meaning) (sound : Sound M) (R : Report) (for : For M R) (s : State) (h : Inv M sound R for s) (none : any s.erased ≡ false)
@@ -54,7 +55,7 @@ module _ (M : Meaning) (sound : Sound M) (R : Report) (for : For M R) (s : State
 
   -- the check is open again
   pub reopened : (d : ℕ) → has (set s.closed e.check false) d ≡ closed_by l d
-  reopened d = go (either (eqb e.check d))
+  reopened d = go (cases_Bool (eqb e.check d))
     where
       go : (eqb e.check d ≡ true) ⊎ (eqb e.check d ≡ false) → has (set s.closed e.check false) d ≡ closed_by l d
       go (inl q) = subst (λ (x : ℕ). has (set s.closed e.check false) x ≡ closed_by l x) (eqb-true e.check d q) (off_set s.closed e.check ∙ sym firm.fresh)
@@ -68,7 +69,7 @@ module _ (M : Meaning) (sound : Sound M) (R : Report) (for : For M R) (s : State
   own = let r = odd_some (row M.checks e.check) firm.adjuster firm.turns in (r.0, r.1, firm.adjusts.inside r.0 r.2)
 
   still_open : (d i : ℕ) → closed_by l d ≡ false → has (row M.checks d) i ≡ true → shelved_by l i ≡ true → closed_by (e ∷ l) d ≡ false
-  still_open d i o p x = or_neither (eqb e.check d) (closed_by l d) (deny (eqb e.check d) (λ q.
+  still_open d i o p x = or_from (eqb e.check d) (closed_by l d) (false_from_ne_true (eqb e.check d) (λ q.
       let g : e.check ≡ d = eqb-true e.check d q in
       firm.parts e.check firm.fresh own.0 i own.1 own.2 (ap (λ (x : ℕ). has (row M.checks x) i) g ∙ p) x)) o
 
@@ -86,10 +87,10 @@ module _ (M : Meaning) (sound : Sound M) (R : Report) (for : For M R) (s : State
 
   settle_apart : (d : ℕ) → has (touched M t e.members) d ≡ true → (i : ℕ) → has (row M.checks d) i ≡ true → rest (left_of s) (has e.members) i ≡ true → ⊥
   settle_apart d x i p q =
-      let b = and_both (left_of s i) (not (has e.members i)) q in
+      let b = and_parts (left_of s i) (not (has e.members i)) q in
       let r = of_touched M sound t h.erased_long e.members d x in
       elim (or_cases (has e.members i) (shelved_by l i) (left_is i b.0)) [
-        | inl a ↦ clash a (not_true (has e.members i) b.1)
+        | inl a ↦ clash a (not-true (has e.members i) b.1)
         | inr a ↦ firm.parts d (sym (reopened d) ∙ r.0) r.1 i r.2 r.3 p a
       ]
 
@@ -98,7 +99,7 @@ module _ (M : Meaning) (sound : Sound M) (R : Report) (for : For M R) (s : State
   settle_fill x u even =
       let r = adjust M l good.1 (λ d. odd (row M.checks d) x) (λ d o. even_open M sound R for t e.members x h.erased_long u d (reopened d ∙ o) (even d)) in (
         r.0,
-        under_more (qubits M) M.checks (λ i q. and_pair (shelved_left i (or_right (has e.members i) (shelved_by l i) q)) (false_not (has e.members i) (deny (has e.members i) (λ k. clash q (firm.apart i k))))) r.1,
+        under_more (qubits M) M.checks (λ i q. and_from _ _ (shelved_left i (or_right (has e.members i) (shelved_by l i) q)) (not_from_false (has e.members i) (false_from_ne_true (has e.members i) (λ k. clash q (firm.apart i k))))) r.1,
         r.2,
       )
 
@@ -140,11 +141,11 @@ module _ (M : Meaning) (sound : Sound M) (R : Report) (for : For M R) (s : State
       unturned d i o p x = sym (has_plus s.odds (syndrome M z) d ∙ ap (flip (has s.odds d)) (has_syndrome M z d ∙ odd_apart (row M.checks d) z (λ j p' q. firm.parts d o j i p' (S.under.inside j q) p x)) ∙ flip_false (has s.odds d))
 
       was : (i : ℕ) → has (less s.erased e.members) i ≡ true → has s.erased i ≡ true
-      was i q = (and_both (has s.erased i) (not (has e.members i)) (sym (has_less s.erased e.members i) ∙ q)).0
+      was i q = (and_parts (has s.erased i) (not (has e.members i)) (sym (has_less s.erased e.members i) ∙ q)).0
 
   -- its system has a solution: what explained the internal checks, and the adjuster too if the entry's own check is not explained
   pub settle_some : (z : List Bool) × In z (settle_from M s e l)
-  settle_some = go (either (flip (odd (row M.checks e.check) kept.0.0) (has s.odds e.check)))
+  settle_some = go (cases_Bool (flip (odd (row M.checks e.check) kept.0.0) (has s.odds e.check)))
     where
       z₀ : List Bool
       z₀ = kept.0.0
@@ -154,7 +155,7 @@ module _ (M : Meaning) (sound : Sound M) (R : Report) (for : For M R) (s : State
       found z u here others = (
         z,
         in_solutions (qubits M) M.checks e.members (touched M t e.members) s.odds firm.long touched_is_long z
-            (record { under = u; told = λ d x. let r = of_touched M sound t h.erased_long e.members d x in told d r.1 (sym (reopened d) ∙ r.0) r.2 r.3 (either (eqb e.check d)) }),
+            (record { under = u; told = λ d x. let r = of_touched M sound t h.erased_long e.members d x in told d r.1 (sym (reopened d) ∙ r.0) r.2 r.3 (cases_Bool (eqb e.check d)) }),
       )
         where
           told : (d i : ℕ) → closed_by l d ≡ false → has (row M.checks d) i ≡ true → has e.members i ≡ true → (eqb e.check d ≡ true) ⊎ (eqb e.check d ≡ false) → odd (row M.checks d) z ≡ has s.odds d
@@ -162,7 +163,7 @@ module _ (M : Meaning) (sound : Sound M) (R : Report) (for : For M R) (s : State
           told d i o p k (inr q) = others d i (λ g. clash (ap (eqb e.check) (sym g) ∙ eqb_same e.check) q) o p k
 
       old : (d i : ℕ) → (e.check ≡ d → ⊥) → closed_by l d ≡ false → has (row M.checks d) i ≡ true → has e.members i ≡ true → odd (row M.checks d) kept.0.0 ≡ has s.odds d
-      old d i n o p k = kept.0.2 d (or_neither (eqb e.check d) (closed_by l d) (deny (eqb e.check d) (λ q. n (eqb-true e.check d q))) o) i p k
+      old d i n o p k = kept.0.2 d (or_from (eqb e.check d) (closed_by l d) (false_from_ne_true (eqb e.check d) (λ q. n (eqb-true e.check d q))) o) i p k
 
       go : (flip (odd (row M.checks e.check) kept.0.0) (has s.odds e.check) ≡ true) ⊎ (flip (odd (row M.checks e.check) kept.0.0) (has s.odds e.check) ≡ false) → (z : List Bool) × In z (settle_from M s e l)
       go (inr q) = found kept.0.0 kept.0.1 (flip_same (odd (row M.checks e.check) kept.0.0) (has s.odds e.check) q) old

@@ -1,10 +1,11 @@
 -- The shelf: what its entries keep true, how they adjust the closed checks, and what stays true of a whole trial.
 use Rattle.std.proofs.Common.{◌≡◌, ℕ, ◌+◌, Bool, true, false, not, ◌&&◌, ◌||◌, eqb, ◌⊎◌, List, [], ◌∷◌, length, sym, refl, ap, ◌∙◌, subst, inl, inr, eqb-true}
+use Rattle.std.proofs.lemmas.Bool.{cases_Bool, and_parts, and_from, or_left, or_right, or_from, false_from_ne_true, not_from_false}
 use mathlib.Core.Bool.{false≢true}
 use lib.ListN.{length-replicate}
 use Rattle.sets.specs.Bits.{flip}
 use Rattle.sets.specs.Sets.{odd, has, row, plus, empty, less}
-use Rattle.sets.proofs.Bits.{either, clash, and_both, and_pair, or_left, or_right, or_neither, deny, false_not, flip_false}
+use Rattle.sets.proofs.Bits.{clash, flip_false}
 use Rattle.sets.proofs.Sets.{has_plus, has_less, has_empty, length_over, odd_plus, odd_empty, odd_apart}
 use Rattle.sets.proofs.Numbers.{eqb_same}
 use Rattle.meaning.specs.Meaning.{Meaning, Sound, qubits}
@@ -45,13 +46,13 @@ module _ (M : Meaning) where
   pub adjust : (l : List Entry) → Good l → (t : ℕ → Bool) → ((d : ℕ) → closed_by l d ≡ false → t d ≡ false)
       → (w : List Bool) × Under (qubits M) (shelved_by l) w × ((d : ℕ) → odd (row M.checks d) w ≡ t d)
   adjust [] g t h = (empty (qubits M), record { long = length-replicate (qubits M) false; inside = λ i e. absurd (clash e (has_empty (qubits M) i)) }, λ d. odd_empty (row M.checks d) (qubits M) ∙ sym (h d refl))
-  adjust (e ∷ l) g t h = go (either (t e.check)) (λ u k. adjust l g.1 u k)
+  adjust (e ∷ l) g t h = go (cases_Bool (t e.check)) (λ u k. adjust l g.1 u k)
     where
       f : Firm e l
       f = g.0
 
       by_check : (d : ℕ) → closed_by l d ≡ false → (e.check ≡ d) ⊎ ((e.check ≡ d → ⊥) × (t d ≡ false))
-      by_check d o = elim (either (eqb e.check d)) [ inl p ↦ inl (eqb-true e.check d p) | inr p ↦ inr (λ q. clash (ap (eqb e.check) (sym q) ∙ eqb_same e.check) p, h d (or_neither (eqb e.check d) (closed_by l d) p o)) ]
+      by_check d o = elim (cases_Bool (eqb e.check d)) [ inl p ↦ inl (eqb-true e.check d p) | inr p ↦ inr (λ q. clash (ap (eqb e.check) (sym q) ∙ eqb_same e.check) p, h d (or_from (eqb e.check d) (closed_by l d) p o)) ]
 
       go : (t e.check ≡ true) ⊎ (t e.check ≡ false)
           → ((u : ℕ → Bool) → ((d : ℕ) → closed_by l d ≡ false → u d ≡ false) → (w : List Bool) × Under (qubits M) (shelved_by l) w × ((d : ℕ) → odd (row M.checks d) w ≡ u d))
@@ -156,13 +157,13 @@ module _ (M : Meaning) (sound : Sound M) (R : Report) (for : For M R) where
             (λ d i o p m. (o, sym (has_plus s.odds (syndrome M z) d ∙ ap (flip (has s.odds d)) (has_syndrome M z d ∙ odd_apart (row M.checks d) z (λ j p' q. h.parts d o j i p' (sub j (inside j q)) p m)) ∙ flip_false (has s.odds d))))
             h.kept;
         closed_is = h.closed_is;
-        shelved_is = λ i. has_less s.shelved k i ∙ and_not (has s.shelved i) (has k i) (λ t. deny (has k i) (λ q. clash (sym (h.shelved_is i) ∙ t) (h.apart i (sub i q)))) ∙ h.shelved_is i;
+        shelved_is = λ i. has_less s.shelved k i ∙ and_not (has s.shelved i) (has k i) (λ t. false_from_ne_true (has k i) (λ q. clash (sym (h.shelved_is i) ∙ t) (h.apart i (sub i q)))) ∙ h.shelved_is i;
         apart = λ i e. h.apart i (was i e);
         parts = λ d o i j p e q t. h.parts d o i j p (was i e) q t;
       }
     where
       was : (i : ℕ) → has (less s.erased k) i ≡ true → has s.erased i ≡ true
-      was i e = (and_both (has s.erased i) (not (has k i)) (sym (has_less s.erased k i) ∙ e)).0
+      was i e = (and_parts (has s.erased i) (not (has k i)) (sym (has_less s.erased k i) ∙ e)).0
 
   -- what is even on every open check is made up for by shelved qubits
   pub inv_fill : (s : State) (K : ℕ → Bool) → Inv s → ((i : ℕ) → K i ≡ true → has s.erased i ≡ true) → (x : List Bool) → ((d : ℕ) → closed_by s.shelf d ≡ false → odd (row M.checks d) x ≡ false)
@@ -170,6 +171,6 @@ module _ (M : Meaning) (sound : Sound M) (R : Report) (for : For M R) where
   inv_fill s K h sub x even =
       let r = adjust M s.shelf h.good (λ d. odd (row M.checks d) x) even in (
         r.0,
-        under_more (qubits M) M.checks (λ i q. and_pair (or_right (has s.erased i) (has s.shelved i) (h.shelved_is i ∙ q)) (false_not (K i) (deny (K i) (λ k. clash q (h.apart i (sub i k)))))) r.1,
+        under_more (qubits M) M.checks (λ i q. and_from _ _ (or_right (has s.erased i) (has s.shelved i) (h.shelved_is i ∙ q)) (not_from_false (K i) (false_from_ne_true (K i) (λ k. clash q (h.apart i (sub i k)))))) r.1,
         r.2,
       )

@@ -1,9 +1,9 @@
 -- No call is accepted that is shown another slip than the trial's.
 use Rattle.std.proofs.Common.{◌≡◌, ℕ, Bool, false, not, eqb, List, [], ◌∷◌, Ok, Result, sym, ap, ◌∙◌, eqb-true}
+use Rattle.std.proofs.lemmas.Bool.{not-false}
 use borrow.Author.Tests.{eqb-false}
 use Rattle.terms.specs.declared.refusal.Refusal.{Refusal}
 use Rattle.terms.specs.declared.refusal.Refusal.TheVariants.{NoSolution}
-use Rattle.sets.proofs.Bits.{not_false}
 use Rattle.meaning.specs.Meaning.{Meaning}
 use Rattle.rules.specs.declared.answers.Cluster.{Cluster}
 use Rattle.rules.specs.States.{State}
@@ -18,7 +18,7 @@ use Rattle.rules.proofs.Bars.{not_ok, passed, accepted}
 
 module _ (M : Meaning) (s : State) (slip : ℕ) where
   own : not (eqb slip s.number) ≡ false → slip ≡ s.number
-  own e = eqb-true slip s.number (not_false (eqb slip s.number) e)
+  own e = eqb-true slip s.number (not-false (eqb slip s.number) e)
 
   -- what an accepted call answers is what it answers past its bars
   past : {A S : Type 0} (bars : List Bar) (x : S) (after : Result A Refusal × S) (a : A) → (unless bars x after).0 ≡ Ok a → after.0 ≡ Ok a

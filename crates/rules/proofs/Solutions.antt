@@ -1,5 +1,6 @@
 -- The solutions of a system, as they are listed: which they are, and that their number is 2 to the slack.
 use Rattle.std.proofs.Common.{◌≡◌, ℕ, zero, suc, ◌/◌, ◌^◌, ◌<◌, ◌≤◌, Bool, true, false, T, leb, ◌⊎◌, List, [], ◌∷◌, map, length, drop, sym, refl, ap, ◌∙◌, subst, inl, inr, pow-suc, mul-div_cancel, arith, leb→le, pow_pos}
+use Rattle.std.proofs.lemmas.Bool.{and_parts, and_from}
 use mathlib.Core.Bool.{false≢true}
 use mathlib.Core.Option.{Option, none, some}
 use native.Mathlib.Nat.{two-pow-succ}
@@ -7,7 +8,7 @@ use Rattle.sets.specs.Bits.{alike}
 use Rattle.sets.specs.Lists.{In, Distinct, Lists, Exactly}
 use Rattle.sets.specs.Sets.{odd, has, row}
 use Rattle.sets.proofs.Lists.{in_left, in_right, in_cases, in_map, of_map, distinct_map, distinct_append}
-use Rattle.sets.proofs.Bits.{and_both, and_pair, alike_same, same_alike}
+use Rattle.sets.proofs.Bits.{alike_same, same_alike}
 use Rattle.sets.proofs.Sets.{has_below}
 use Rattle.linear.specs.Field.{bits}
 use Rattle.linear.specs.Basis.{Basis}
@@ -72,11 +73,11 @@ has_drop (b ∷ s) d = refl
 pub of_explains : (C : List (List Bool)) (A s x : List Bool) → length A ≡ length C → explains (rows C A s) x ≡ true → (d : ℕ) → has A d ≡ true → odd (row C d) x ≡ has s d
 of_explains [] A s x l e d t = let h : d < length A = has_below A d t in absurd (omega arith)
 of_explains (c ∷ C) [] s x l e d t = absurd (omega arith)
-of_explains (c ∷ C) (true ∷ A) s x l e zero t = alike_same (odd c x) (has s 0) (and_both (alike (odd c x) (has s 0)) (explains (rows C A (drop 1 s)) x) e).0
+of_explains (c ∷ C) (true ∷ A) s x l e zero t = alike_same (odd c x) (has s 0) (and_parts (alike (odd c x) (has s 0)) (explains (rows C A (drop 1 s)) x) e).0
 of_explains (c ∷ C) (false ∷ A) s x l e zero t = absurd (false≢true t)
 of_explains (c ∷ C) (true ∷ A) s x l e (suc d) t =
     let l' : length A ≡ length C = omega arith in
-    of_explains C A (drop 1 s) x l' (and_both (alike (odd c x) (has s 0)) (explains (rows C A (drop 1 s)) x) e).1 d t ∙ has_drop s d
+    of_explains C A (drop 1 s) x l' (and_parts (alike (odd c x) (has s 0)) (explains (rows C A (drop 1 s)) x) e).1 d t ∙ has_drop s d
 of_explains (c ∷ C) (false ∷ A) s x l e (suc d) t =
     let l' : length A ≡ length C = omega arith in
     of_explains C A (drop 1 s) x l' e d t ∙ has_drop s d
@@ -86,7 +87,7 @@ in_explains [] A s x l h = refl
 in_explains (c ∷ C) [] s x l h = absurd (omega arith)
 in_explains (c ∷ C) (true ∷ A) s x l h =
     let l' : length A ≡ length C = omega arith in
-    and_pair (same_alike (odd c x) (has s 0) (h 0 refl)) (in_explains C A (drop 1 s) x l' (λ d t. h (suc d) t ∙ sym (has_drop s d)))
+    and_from _ _ (same_alike (odd c x) (has s 0) (h 0 refl)) (in_explains C A (drop 1 s) x l' (λ d t. h (suc d) t ∙ sym (has_drop s d)))
 in_explains (c ∷ C) (false ∷ A) s x l h =
     let l' : length A ≡ length C = omega arith in
     in_explains C A (drop 1 s) x l' (λ d t. h (suc d) t ∙ sym (has_drop s d))

@@ -1,10 +1,11 @@
 -- Solve keeps what is true of a trial: the cluster's least solution is flipped, or the cluster is shelved.
 use Rattle.std.proofs.Common.{◌≡◌, ℕ, ◌<◌, ◌≤◌, Bool, true, false, not, ◌&&◌, ◌||◌, eqb, ◌⊎◌, List, [], ◌∷◌, length, set, sym, refl, ap, ◌∙◌, subst, inl, inr, true≢false, arith, length-set, get_or-set_other, get_or-set_same, eqb-true}
+use Rattle.std.proofs.lemmas.Bool.{cases_Bool, and_parts, and_from, or_cases, or_left, or_parts, or_from, not-true, not-false, not_from_false, false_from_ne_true}
 use mathlib.Core.Bool.{false≢true}
 use lib.ListN.{length-map}
 use Rattle.sets.specs.Sets.{odd, has, row, join, less, any, size, lowest, holders, meets}
 use Rattle.sets.specs.Lists.{In}
-use Rattle.sets.proofs.Bits.{either, clash, and_both, and_pair, or_cases, or_left, or_none, or_neither, not_true, not_false, false_not, deny}
+use Rattle.sets.proofs.Bits.{clash}
 use Rattle.sets.proofs.Sets.{has_less, has_meet, has_join, has_below, has_any, length_over}
 use Rattle.sets.proofs.Numbers.{eqb_same}
 use Rattle.meaning.specs.Meaning.{Meaning, Sound, qubits}
@@ -40,14 +41,14 @@ module _ (M : Meaning) (sound : Sound M) (R : Report) (for : For M R) (s : State
 
     of_internal : (d : ℕ) → has (internal M s q (cluster M s q)) d ≡ true → (has (touched M s (cluster M s q)) d ≡ true) × (has (connects M s q) d ≡ false)
     of_internal d e =
-        let r = and_both (has (touched M s K) d) (not (has (connects M s q) d)) (sym (has_less (touched M s K) (connects M s q) d) ∙ e) in
-        (r.0, not_true (has (connects M s q) d) r.1)
+        let r = and_parts (has (touched M s K) d) (not (has (connects M s q) d)) (sym (has_less (touched M s K) (connects M s q) d) ∙ e) in
+        (r.0, not-true (has (connects M s q) d) r.1)
 
     is_internal : (d : ℕ) → has (touched M s (cluster M s q)) d ≡ true → has (connects M s q) d ≡ false → has (internal M s q (cluster M s q)) d ≡ true
-    is_internal d t e = has_less (touched M s K) (connects M s q) d ∙ and_pair t (false_not (has (connects M s q) d) e)
+    is_internal d t e = has_less (touched M s K) (connects M s q) d ∙ and_from _ _ t (not_from_false (has (connects M s q) d) e)
 
     of_connects : (d : ℕ) → has (connects M s q) d ≡ true → has (touched M s (cluster M s q)) d ≡ true
-    of_connects d e = (and_both (has (touched M s K) d) (has (holders M.checks (other_side M s q)) d) (sym (has_meet (touched M s K) (holders M.checks (other_side M s q)) d) ∙ e)).0
+    of_connects d e = (and_parts (has (touched M s K) d) (has (holders M.checks (other_side M s q)) d) (sym (has_meet (touched M s K) (holders M.checks (other_side M s q)) d) ∙ e)).0
 
     open_of : (d : ℕ) → has (touched M s (cluster M s q)) d ≡ true → closed_by s.shelf d ≡ false
     open_of d t = sym (h.closed_is d) ∙ (of_touched M sound s h.erased_long K d t).0
@@ -57,10 +58,10 @@ module _ (M : Meaning) (sound : Sound M) (R : Report) (for : For M R) (s : State
 
     solve_apart : (d : ℕ) → has (internal M s q (cluster M s q)) d ≡ true → (i : ℕ) → has (row M.checks d) i ≡ true → rest (left_of s) (has (cluster M s q)) i ≡ true → ⊥
     solve_apart d t i p e =
-        let b = and_both (left_of s i) (not (has K i)) e in
+        let b = and_parts (left_of s i) (not (has K i)) e in
         let r = of_touched M sound s h.erased_long K d (of_internal d t).0 in
         elim (or_cases (has s.erased i) (has s.shelved i) b.0) [
-          | inl x ↦ clash (internal_apart M sound s h.erased_long q on d i t p x) (not_true (has K i) b.1)
+          | inl x ↦ clash (internal_apart M sound s h.erased_long q on d i t p x) (not-true (has K i) b.1)
           | inr x ↦ h.parts d (sym (h.closed_is d) ∙ r.0) r.1 i r.2 (K-erased r.1 r.3) p (sym (h.shelved_is i) ∙ x)
         ]
 
@@ -74,7 +75,7 @@ module _ (M : Meaning) (sound : Sound M) (R : Report) (for : For M R) (s : State
       -- even on each internal check and odd on a connecting one: a solution of the system whose odd check is that one
       freeing : (x : List Bool) (d : ℕ) → Under (qubits M) (has (cluster M s q)) x → ((d : ℕ) → has (internal M s q (cluster M s q)) d ≡ true → odd (row M.checks d) x ≡ false)
           → has (connects M s q) d ≡ true → odd (row M.checks d) x ≡ true → Sys (qubits M) M.checks (has (cluster M s q)) (has (touched M s (cluster M s q))) (has (connects M s q)) x
-      freeing x d u even e o = record { under = u; told = λ k t. go k t (either (has (connects M s q) k)) }
+      freeing x d u even e o = record { under = u; told = λ k t. go k t (cases_Bool (has (connects M s q) k)) }
         where
           go : (k : ℕ) → has (touched M s K) k ≡ true → (has (connects M s q) k ≡ true) ⊎ (has (connects M s q) k ≡ false) → odd (row M.checks k) x ≡ has (connects M s q) k
           go k t (inl c) = subst (λ (j : ℕ). odd (row M.checks j) x ≡ true) (one_only (connects M s q) few d k e c) o ∙ sym c
@@ -83,10 +84,10 @@ module _ (M : Meaning) (sound : Sound M) (R : Report) (for : For M R) (s : State
       -- a frozen check is even wherever the internal ones are
       frozen : free M s (cluster M s q) (connects M s q) ≡ false → (x : List Bool) → Under (qubits M) (has (cluster M s q)) x
           → ((d : ℕ) → has (internal M s q (cluster M s q)) d ≡ true → odd (row M.checks d) x ≡ false) → (d : ℕ) → has (connects M s q) d ≡ true → odd (row M.checks d) x ≡ false
-      frozen no_way x u even d e = deny (odd (row M.checks d) x) (λ o. none_left (in_solutions (qubits M) M.checks K (touched M s K) (connects M s q) K-long (touched_long M sound R for s K h.closed_long) x (freeing x d u even e o)))
+      frozen no_way x u even d e = false_from_ne_true (odd (row M.checks d) x) (λ o. none_left (in_solutions (qubits M) M.checks K (touched M s K) (connects M s q) K-long (touched_long M sound R for s K h.closed_long) x (freeing x d u even e o)))
         where
           len : length (solutions M.checks K (touched M s K) (connects M s q)) ≡ 0
-          len = eqb-true (length (solutions M.checks K (touched M s K) (connects M s q))) 0 (not_false (eqb (length (solutions M.checks K (touched M s K) (connects M s q))) 0) (deny_and (any (connects M s q)) (not (eqb (length (solutions M.checks K (touched M s K) (connects M s q))) 0)) (has_any (connects M s q) d e) no_way))
+          len = eqb-true (length (solutions M.checks K (touched M s K) (connects M s q))) 0 (not-false (eqb (length (solutions M.checks K (touched M s K) (connects M s q))) 0) (deny_and (any (connects M s q)) (not (eqb (length (solutions M.checks K (touched M s K) (connects M s q))) 0)) (has_any (connects M s q) d e) no_way))
             where
               deny_and : (a b : Bool) → a ≡ true → (a && b) ≡ false → b ≡ false
               deny_and true b p q = q
@@ -102,7 +103,7 @@ module _ (M : Meaning) (sound : Sound M) (R : Report) (for : For M R) (s : State
       module _ (no_way : free M s (cluster M s q) (connects M s q) ≡ false) where
         solve_fill : (x : List Bool) → Under (qubits M) (has (cluster M s q)) x → ((d : ℕ) → has (internal M s q (cluster M s q)) d ≡ true → odd (row M.checks d) x ≡ false)
             → (w : List Bool) × Under (qubits M) (rest (left_of s) (has (cluster M s q))) w × ((d : ℕ) → odd (row M.checks d) w ≡ odd (row M.checks d) x)
-        solve_fill x u even = inv_fill M sound R for s (has K) h K-erased x (λ d o. even_open M sound R for s K x h.erased_long u d (h.closed_is d ∙ o) (λ t. go d t (either (has (connects M s q) d))))
+        solve_fill x u even = inv_fill M sound R for s (has K) h K-erased x (λ d o. even_open M sound R for s K x h.erased_long u d (h.closed_is d ∙ o) (λ t. go d t (cases_Bool (has (connects M s q) d))))
           where
             go : (d : ℕ) → has (touched M s K) d ≡ true → (has (connects M s q) d ≡ true) ⊎ (has (connects M s q) d ≡ false) → odd (row M.checks d) x ≡ false
             go d t (inl c) = frozen no_way x u even d c
@@ -124,13 +125,13 @@ module _ (M : Meaning) (sound : Sound M) (R : Report) (for : For M R) (s : State
         c = lowest (connects M s q)
 
         c_in : has (connects M s q) (lowest (connects M s q)) ≡ true
-        c_in = lowest_has (connects M s q) (and_both (any (connects M s q)) (not (eqb (length (solutions M.checks K (touched M s K) (connects M s q))) 0)) way).0
+        c_in = lowest_has (connects M s q) (and_parts (any (connects M s q)) (not (eqb (length (solutions M.checks K (touched M s K) (connects M s q))) 0)) way).0
 
         c_only : (d : ℕ) → has (connects M s q) d ≡ true → lowest (connects M s q) ≡ d
         c_only d e = one_only (connects M s q) few (lowest (connects M s q)) d c_in e
 
         adjusting : (w : List Bool) × Sys (qubits M) M.checks (has (cluster M s q)) (has (touched M s (cluster M s q))) (has (connects M s q)) w
-        adjusting = go (solutions M.checks K (touched M s K) (connects M s q)) (not_true (eqb (length (solutions M.checks K (touched M s K) (connects M s q))) 0) (and_both (any (connects M s q)) (not (eqb (length (solutions M.checks K (touched M s K) (connects M s q))) 0)) way).1) (of_solutions (qubits M) M.checks K (touched M s K) (connects M s q) K-long (touched_long M sound R for s K h.closed_long))
+        adjusting = go (solutions M.checks K (touched M s K) (connects M s q)) (not-true (eqb (length (solutions M.checks K (touched M s K) (connects M s q))) 0) (and_parts (any (connects M s q)) (not (eqb (length (solutions M.checks K (touched M s K) (connects M s q))) 0)) way).1) (of_solutions (qubits M) M.checks K (touched M s K) (connects M s q) K-long (touched_long M sound R for s K h.closed_long))
           where
             go : (l : List (List Bool)) → eqb (length l) 0 ≡ false → ((x : List Bool) → In x l → Sys (qubits M) M.checks (has K) (has (touched M s K)) (has (connects M s q)) x) → (w : List Bool) × Sys (qubits M) M.checks (has K) (has (touched M s K)) (has (connects M s q)) w
             go [] e f = absurd (true≢false e)
@@ -143,7 +144,7 @@ module _ (M : Meaning) (sound : Sound M) (R : Report) (for : For M R) (s : State
               adjuster = adjusting.0;
               adjusts = adjusting.1.under;
               turns = adjusting.1.told c (of_connects c c_in) ∙ c_in;
-              keeps = λ d n o. even_open M sound R for s K adjusting.0 h.erased_long adjusting.1.under d (h.closed_is d ∙ o) (λ t. adjusting.1.told d t ∙ deny (has (connects M s q) d) (λ e. n (c_only d e)));
+              keeps = λ d n o. even_open M sound R for s K adjusting.0 h.erased_long adjusting.1.under d (h.closed_is d ∙ o) (λ t. adjusting.1.told d t ∙ false_from_ne_true (has (connects M s q) d) (λ e. n (c_only d e)));
               parts = λ d o i j p k p' t. h.parts d o i j p (K-erased i k) p' t;
               apart = λ i k. h.apart i (K-erased i k);
               fresh = open_of c (of_connects c c_in);
@@ -177,30 +178,30 @@ module _ (M : Meaning) (sound : Sound M) (R : Report) (for : For M R) (s : State
               good = (firm, h.good);
               kept = (
                 (z, S.under, λ d o i p k. S.told d (inner d i o p k)),
-                kept_cong M (closed_by s.shelf) (λ d. eqb c d || closed_by s.shelf d) (has s.odds) (has s.odds) s.shelf (λ d i o p x. ((or_none (eqb c d) (closed_by s.shelf d) o).1, refl)) h.kept,
+                kept_cong M (closed_by s.shelf) (λ d. eqb c d || closed_by s.shelf d) (has s.odds) (has s.odds) s.shelf (λ d i o p x. ((or_parts (eqb c d) (closed_by s.shelf d) o).1, refl)) h.kept,
               );
               closed_is = closed_is;
               shelved_is = λ i. has_join s.shelved K i ∙ ap (λ t. t || has K i) (h.shelved_is i) ∙ or_swap (shelved_by s.shelf i) (has K i);
-              apart = λ i e. or_neither (has K i) (shelved_by s.shelf i) (not_true (has K i) (was i e).1) (h.apart i (was i e).0);
+              apart = λ i e. or_from (has K i) (shelved_by s.shelf i) (not-true (has K i) (was i e).1) (h.apart i (was i e).0);
               parts = parts;
             }
           where
             was : (i : ℕ) → has (less s.erased K) i ≡ true → (has s.erased i ≡ true) × (not (has K i) ≡ true)
-            was i e = and_both (has s.erased i) (not (has K i)) (sym (has_less s.erased K i) ∙ e)
+            was i e = and_parts (has s.erased i) (not (has K i)) (sym (has_less s.erased K i) ∙ e)
 
             S : Sys (qubits M) M.checks (has K) (has (internal M s q K)) (has s.odds) z
             S = of_solutions (qubits M) M.checks K (internal M s q K) s.odds K-long internal_long z m
 
             inner : (d j : ℕ) → (eqb c d || closed_by s.shelf d) ≡ false → has (row M.checks d) j ≡ true → has K j ≡ true → has (internal M s q K) d ≡ true
             inner d j o p k =
-                let b = or_none (eqb c d) (closed_by s.shelf d) o in
-                is_internal d (is_touched M sound s h.erased_long K d j (h.closed_is d ∙ b.1) p k) (deny (has (connects M s q) d) (λ x. clash (ap (eqb c) (sym (c_only d x)) ∙ eqb_same c) b.0))
+                let b = or_parts (eqb c d) (closed_by s.shelf d) o in
+                is_internal d (is_touched M sound s h.erased_long K d j (h.closed_is d ∙ b.1) p k) (false_from_ne_true (has (connects M s q) d) (λ x. clash (ap (eqb c) (sym (c_only d x)) ∙ eqb_same c) b.0))
 
             c_below : c < length s.closed
             c_below = let b : c < length (connects M s q) = has_below (connects M s q) c c_in in omega (arith, connects_long, h.closed_long)
 
             closed_is : (d : ℕ) → has (set s.closed c true) d ≡ (eqb c d || closed_by s.shelf d)
-            closed_is d = go (either (eqb c d))
+            closed_is d = go (cases_Bool (eqb c d))
               where
                 go : (eqb c d ≡ true) ⊎ (eqb c d ≡ false) → has (set s.closed c true) d ≡ (eqb c d || closed_by s.shelf d)
                 go (inl e) = subst (λ (x : ℕ). has (set s.closed c true) x ≡ true) (eqb-true c d e) (get_or-set_same s.closed c true false c_below) ∙ sym (ap (λ t. t || closed_by s.shelf d) e)
@@ -208,8 +209,8 @@ module _ (M : Meaning) (sound : Sound M) (R : Report) (for : For M R) (s : State
 
             parts : (d : ℕ) → (eqb c d || closed_by s.shelf d) ≡ false → (i j : ℕ) → has (row M.checks d) i ≡ true → has (less s.erased K) i ≡ true → has (row M.checks d) j ≡ true → (has K j || shelved_by s.shelf j) ≡ true → ⊥
             parts d o i j p e p' t =
-                let b = or_none (eqb c d) (closed_by s.shelf d) o in
+                let b = or_parts (eqb c d) (closed_by s.shelf d) o in
                 elim (or_cases (has K j) (shelved_by s.shelf j) t) [
-                  | inl k ↦ clash (internal_apart M sound s h.erased_long q on d i (inner d j o p' k) p (was i e).0) (not_true (has K i) (was i e).1)
+                  | inl k ↦ clash (internal_apart M sound s h.erased_long q on d i (inner d j o p' k) p (was i e).0) (not-true (has K i) (was i e).1)
                   | inr k ↦ h.parts d b.1 i j p (was i e).0 p' k
                 ]

@@ -1,9 +1,10 @@
 -- What is left to explain splits: a choice inside a system, and the rest.
 use Rattle.std.proofs.Common.{◌≡◌, ℕ, zero, suc, ◌*◌, Bool, true, false, not, ◌&&◌, ◌⊎◌, List, [], ◌∷◌, length, sym, refl, ap, ◌∙◌, inl, inr}
+use Rattle.std.proofs.lemmas.Bool.{and_parts, not-true, false_from_ne_true}
 use Rattle.sets.specs.Bits.{flip}
 use Rattle.sets.specs.Sets.{odd, has, row, plus}
 use Rattle.sets.specs.Lists.{Exactly}
-use Rattle.sets.proofs.Bits.{clash, and_both, not_true, deny, flip_cases, flip_self, flip_comm, flip_assoc, flip_back, flip_false}
+use Rattle.sets.proofs.Bits.{clash, flip_cases, flip_self, flip_comm, flip_assoc, flip_back, flip_false}
 use Rattle.sets.proofs.Sets.{has_plus, length_over, ext, odd_plus, odd_apart}
 use Rattle.linear.proofs.Count.{exactly_move, exactly_split}
 
@@ -90,7 +91,7 @@ module _ (n : ℕ) (C : List (List Bool)) where
           (λ k. has_plus (cut K y) (cut (rest U K) y) k ∙ ap (λ t. flip t (has (cut (rest U K) y) k)) (has_cut K y k) ∙ ap (flip (has y k && K k)) (has_cut (rest U K) y k) ∙ bit (has y k) (U k) (K k) (u.inside k))
 
       cut_under : (J : ℕ → Bool) (y : List Bool) → length y ≡ n → Under n J (cut J y)
-      cut_under J y l = record { long = length_cut J y ∙ l; inside = λ i e. (and_both (has y i) (J i) (sym (has_cut J y i) ∙ e)).1 }
+      cut_under J y l = record { long = length_cut J y ∙ l; inside = λ i e. (and_parts (has y i) (J i) (sym (has_cut J y i) ∙ e)).1 }
 
       -- the part of y in K solves the system
       pub part : (y : List Bool) → Res U s y → Sys K T s (cut K y)
@@ -105,14 +106,14 @@ module _ (n : ℕ) (C : List (List Bool)) where
 
       -- a set inside K and one inside the rest, told apart again
       bit_left : (x y k u : Bool) → (x ≡ true → k ≡ true) → (y ≡ true → (u && not k) ≡ true) → (flip x y && k) ≡ x
-      bit_left true true k u f g = absurd (clash (f refl) (not_true k (and_both u (not k) (g refl)).1))
+      bit_left true true k u f g = absurd (clash (f refl) (not-true k (and_parts u (not k) (g refl)).1))
       bit_left true false k u f g = f refl
-      bit_left false true k u f g = not_true k (and_both u (not k) (g refl)).1
+      bit_left false true k u f g = not-true k (and_parts u (not k) (g refl)).1
       bit_left false false k u f g = refl
 
       bit_right : (x y k u : Bool) → (x ≡ true → k ≡ true) → (y ≡ true → (u && not k) ≡ true) → (flip x y && (u && not k)) ≡ y
-      bit_right true true k u f g = absurd (clash (f refl) (not_true k (and_both u (not k) (g refl)).1))
-      bit_right true false k u f g = deny (u && not k) (λ e. clash (f refl) (not_true k (and_both u (not k) e).1))
+      bit_right true true k u f g = absurd (clash (f refl) (not-true k (and_parts u (not k) (g refl)).1))
+      bit_right true false k u f g = false_from_ne_true (u && not k) (λ e. clash (f refl) (not-true k (and_parts u (not k) e).1))
       bit_right false true k u f g = g refl
       bit_right false false k u f g = refl
 
@@ -127,7 +128,7 @@ module _ (n : ℕ) (C : List (List Bool)) where
           (λ k. has_cut (rest U K) (plus x y) k ∙ ap (λ t. t && rest U K k) (has_plus x y k) ∙ bit_right (has x k) (has y k) (K k) (U k) (p.inside k) (q.inside k))
 
       rest_in : (i : ℕ) → rest U K i ≡ true → U i ≡ true
-      rest_in i e = (and_both (U i) (not (K i)) e).0
+      rest_in i e = (and_parts (U i) (not (K i)) e).0
 
       -- the rest, after a choice x
       abbrev Left : List Bool → List Bool → Type 0

@@ -1,10 +1,11 @@
 -- Sweep, peel and prune keep what is true of a trial.
 use Rattle.std.proofs.Common.{◌≡◌, ℕ, ◌^◌, Bool, true, false, cond, not, ◌&&◌, eqb, ◌⊎◌, List, [], ◌∷◌, length, sym, refl, ap, ◌∙◌, subst, inl, inr, eqb-true}
+use Rattle.std.proofs.lemmas.Bool.{cases_Bool, and_parts, and_from, or_cases, or_left, or_parts, not-true, not-false}
 use mathlib.Core.Bool.{false≢true}
 use lib.ListN.{length-replicate, length-map}
 use Rattle.sets.specs.Sets.{odd, has, row, empty, only, size, within, holders, meets}
 use Rattle.sets.specs.Lists.{In, Exactly}
-use Rattle.sets.proofs.Bits.{either, clash, and_both, and_pair, or_cases, or_left, or_none, not_true, not_false, same, flip_cases}
+use Rattle.sets.proofs.Bits.{clash, same, flip_cases}
 use Rattle.sets.proofs.Sets.{has_plus, has_meet, has_empty, length_over, ext, odd_apart, only_other, length_only, within_has, row_in, odd_one}
 use Rattle.sets.proofs.Numbers.{eqb_same}
 use Rattle.meaning.specs.Meaning.{Meaning, Sound, qubits}
@@ -38,10 +39,10 @@ product_erased M erased [] e i t = absurd (clash t (has_empty (qubits M) i))
 product_erased M erased (g ∷ l) e i t = go (flip_cases (has (row M.generators g) i) (has (product M l) i) (sym (has_plus (row M.generators g) (product M l) i) ∙ t)) (λ k. product_erased M erased l b.1 i k)
   where
     b : (not (within (row M.generators g) erased) ≡ false) × (some_outside M.generators erased l ≡ false)
-    b = or_none (not (within (row M.generators g) erased)) (some_outside M.generators erased l) e
+    b = or_parts (not (within (row M.generators g) erased)) (some_outside M.generators erased l) e
 
     go : (has (row M.generators g) i ≡ true) ⊎ (has (product M l) i ≡ true) → (has (product M l) i ≡ true → has erased i ≡ true) → has erased i ≡ true
-    go (inl p) ih = within_has (row M.generators g) erased (not_false (within (row M.generators g) erased) b.0) i p
+    go (inl p) ih = within_has (row M.generators g) erased (not-false (within (row M.generators g) erased) b.0) i p
     go (inr p) ih = ih p
 
 module _ (M : Meaning) (sound : Sound M) (R : Report) (for : For M R) where
@@ -50,16 +51,16 @@ module _ (M : Meaning) (sound : Sound M) (R : Report) (for : For M R) where
 
   -- what is even on every open check that holds one of k, and lies in k, is even on every open check
   pub even_open : (s : State) (k x : List Bool) → length s.erased ≡ qubits M → Under (qubits M) (has k) x → (d : ℕ) → has s.closed d ≡ false → (has (touched M s k) d ≡ true → odd (row M.checks d) x ≡ false) → odd (row M.checks d) x ≡ false
-  even_open s k x l u d o h = elim (either (has (touched M s k) d)) [ inl t ↦ h t | inr t ↦ odd_apart (row M.checks d) x (λ i p q. clash (is_touched M sound s l k d i o p (u.inside i q)) t) ]
+  even_open s k x l u d o h = elim (cases_Bool (has (touched M s k) d)) [ inl t ↦ h t | inr t ↦ odd_apart (row M.checks d) x (λ i p q. clash (is_touched M sound s l k d i o p (u.inside i q)) t) ]
 
   -- Sweep
   module _ (s : State) (h : Inv M sound R for s) where
     sweep_apart : (d : ℕ) → has (touched M s s.erased) d ≡ true → (i : ℕ) → has (row M.checks d) i ≡ true → rest (left_of s) (has s.erased) i ≡ true → ⊥
     sweep_apart d t i p e =
         let r = of_touched M sound s h.erased_long s.erased d t in
-        let b = and_both (left_of s i) (not (has s.erased i)) e in
+        let b = and_parts (left_of s i) (not (has s.erased i)) e in
         elim (or_cases (has s.erased i) (has s.shelved i) b.0) [
-          | inl q ↦ clash q (not_true (has s.erased i) b.1)
+          | inl q ↦ clash q (not-true (has s.erased i) b.1)
           | inr q ↦ h.parts d (sym (h.closed_is d) ∙ r.0) r.1 i r.2 r.3 p (sym (h.shelved_is i) ∙ q)
         ]
 
@@ -98,7 +99,7 @@ module _ (M : Meaning) (sound : Sound M) (R : Report) (for : For M R) where
       q_only = (one_of (held M s c) one).2
 
       of_held : (i : ℕ) → has (held M s c) i ≡ true → (has (row M.checks c) i ≡ true) × (has s.erased i ≡ true)
-      of_held i e = and_both (has (row M.checks c) i) (has s.erased i) (sym (has_meet (row M.checks c) s.erased i) ∙ e)
+      of_held i e = and_parts (has (row M.checks c) i) (has s.erased i) (sym (has_meet (row M.checks c) s.erased i) ∙ e)
 
       pub held_long : length (held M s c) ≡ qubits M
       held_long = length_over ◌&&◌ (row M.checks c) s.erased (qubits M) (row_long (row_in M.checks c)) h.erased_long
@@ -114,9 +115,9 @@ module _ (M : Meaning) (sound : Sound M) (R : Report) (for : For M R) where
       peel_apart d t i p e =
           let g : c ≡ d = eqb-true c d t in
           let p' : has (row M.checks c) i ≡ true = ap (λ (x : ℕ). has (row M.checks x) i) g ∙ p in
-          let b = and_both (left_of s i) (not (has (held M s c) i)) e in
+          let b = and_parts (left_of s i) (not (has (held M s c) i)) e in
           elim (or_cases (has s.erased i) (has s.shelved i) b.0) [
-            | inl r ↦ clash (has_meet (row M.checks c) s.erased i ∙ and_pair p' r) (not_true (has (held M s c) i) b.1)
+            | inl r ↦ clash (has_meet (row M.checks c) s.erased i ∙ and_from _ _ p' r) (not-true (has (held M s c) i) b.1)
             | inr r ↦ h.parts c (sym (h.closed_is c) ∙ o) q i (of_held q q_in).0 (of_held q q_in).1 p' (sym (h.shelved_is i) ∙ r)
           ]
 

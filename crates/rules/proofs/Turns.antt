@@ -1,11 +1,12 @@
 -- A run goes on until nothing more can be done.
 use Rattle.std.proofs.Common.{◌≡◌, ℕ, zero, suc, ◌≤◌, Bool, true, false, not, eqb, ◌⊎◌, List, [], ◌∷◌, length, Ok, Result, sym, refl, ap, ◌∙◌, subst, inl, inr, arith, ne_eqb}
+use Rattle.std.proofs.lemmas.Bool.{cases_Bool, false_from_ne_true, and_parts}
 use mathlib.Core.Option.{Option, none, some}
 use Rattle.terms.specs.declared.refusal.Refusal.{Refusal}
 use Rattle.terms.specs.declared.refusal.Refusal.TheVariants.{StillErased, ShelfEmpty}
 use Rattle.sets.specs.Lists.{In}
 use Rattle.sets.specs.Sets.{has, less, any, size}
-use Rattle.sets.proofs.Bits.{either, clash, deny, and_both}
+use Rattle.sets.proofs.Bits.{clash}
 use Rattle.sets.proofs.Sets.{has_less, any_none, any_some}
 use Rattle.sets.proofs.Numbers.{eqb_same}
 use Rattle.meaning.specs.Meaning.{Meaning, Sound, qubits}
@@ -55,8 +56,8 @@ module _ (M : Meaning) (sound : Sound M) (R : Report) (for : For M R) where
       (subst (λ x. let t : State = (settle_newest M s x).1 in (t.void ≡ false) × (any t.erased ≡ false) × (t.shelf ≡ l)) (sym newest) (go (settle_from M s e l) (settle_some M sound R for s h off e l newest).1))
     where
       none_less : any (less s.erased e.members) ≡ false
-      none_less = deny (any (less s.erased e.members)) (λ x. let i = any_some (less s.erased e.members) x in
-          clash (and_both (has s.erased i.0) (not (has e.members i.0)) (sym (has_less s.erased e.members i.0) ∙ i.1)).0 (any_none s.erased off i.0))
+      none_less = false_from_ne_true (any (less s.erased e.members)) (λ x. let i = any_some (less s.erased e.members) x in
+          clash (and_parts (has s.erased i.0) (not (has e.members i.0)) (sym (has_less s.erased e.members i.0) ∙ i.1)).0 (any_none s.erased off i.0))
 
       go : (found : List (List Bool)) → In (settle_some M sound R for s h off e l newest).0 found
           → let t : State = (settle_found M s (reopen e.check l s) e.members found).1 in (t.void ≡ false) × (any t.erased ≡ false) × (t.shelf ≡ l)
@@ -102,7 +103,7 @@ module _ (M : Meaning) (sound : Sound M) (R : Report) (for : For M R) where
         go (some c) q = elim (next_fewer M s v w scratch clean c (live M sound R for s v h).erased_long q) [ inl x ↦ absurd (omega (arith, x.1)) | inr x ↦ absurd (omega arith) ]
 
     turns_end : (n : ℕ) (s : State) → Truth M sound R for s → (s.void ≡ false → size s.erased ≤ n) → Truth M sound R for (turns M w scratch n s) × Stuck (turns M w scratch n s)
-    turns_end zero s h e = (h, elim (either s.void) [ inl v ↦ inl v | inr v ↦ inr (idle s h v (e v)) ])
+    turns_end zero s h e = (h, elim (cases_Bool s.void) [ inl v ↦ inl v | inr v ↦ inr (idle s h v (e v)) ])
     turns_end (suc n) s h e = go s.void refl (next M w scratch s) refl (λ c f. turns_end n (call M s c) (move_truth M sound R for s (call M s c) (call_move M s c) h) f)
       where
         go : (b : Bool) → s.void ≡ b → (o : Option Call) → next M w scratch s ≡ o
@@ -117,7 +118,7 @@ module _ (M : Meaning) (sound : Sound M) (R : Report) (for : For M R) where
     Ended t = (t.void ≡ true) ⊎ ((next M w scratch t ≡ none) × (any t.erased ≡ false → t.shelf ≡ []))
 
     settled_end : (t : State) → Truth M sound R for t → Stuck t → Truth M sound R for (settles M (length t.shelf) t) × Ended (settles M (length t.shelf) t)
-    settled_end t g x = cases (either t.void) (either (any t.erased)) x
+    settled_end t g x = cases (cases_Bool t.void) (cases_Bool (any t.erased)) x
       where
         same : Refused t → settles M (length t.shelf) t ≡ t
         same = refused_settles (length t.shelf) t

@@ -1,9 +1,9 @@
 -- Whether some element of a list passes a test: as a loop finds it, and what it means.
 use Rattle.std.proofs.Common.{◌≡◌, ℕ, ◌+◌, ◌<◌, ◌≤◌, Bool, true, false, ◌||◌, List, [], ◌∷◌, map, length, get_or, drop, sym, refl, ap, ◌∙◌, inl, inr}
 use Rattle.std.proofs.lemmas.List.{at_drop_more, at_drop_all}
+use Rattle.std.proofs.lemmas.Bool.{or_parts}
 use Rattle.sets.specs.Lists.{In}
 use Rattle.sets.specs.Sets.{any}
-use Rattle.sets.proofs.Bits.{or_none}
 
 module _ {X : Type 0} (p : X → Bool) where
   -- a loop that has come to the place k and found none: what is left decides
@@ -24,8 +24,8 @@ module _ {X : Type 0} (p : X → Bool) where
 
   pub any_false : (xs : List X) → any (map p xs) ≡ false → (x : X) → In x xs → p x ≡ false
   any_false [] e x m = absurd m
-  any_false (y ∷ xs) e x (inl q) = ap p q ∙ (or_none (p y) (any (map p xs)) e).0
-  any_false (y ∷ xs) e x (inr m) = any_false xs (or_none (p y) (any (map p xs)) e).1 x m
+  any_false (y ∷ xs) e x (inl q) = ap p q ∙ (or_parts (p y) (any (map p xs)) e).0
+  any_false (y ∷ xs) e x (inr m) = any_false xs (or_parts (p y) (any (map p xs)) e).1 x m
 
 -- tests that agree on the elements
 pub any_same : {X : Type 0} (p q : X → Bool) (xs : List X) → ((x : X) → In x xs → p x ≡ q x) → any (map p xs) ≡ any (map q xs)

@@ -5,10 +5,11 @@ use borrow.Author.Tests.{eqb-false}
 use Rattle.std.specs.List.{IsAnyAnswer}
 use Rattle.std.proofs.lemmas.List.Elements.{contains_decides}
 use Rattle.std.proofs.lemmas.Bool.Decides.{same_from_decides, Decides-by_or, Decides-like, Decides-eqb}
+use Rattle.std.proofs.lemmas.Bool.{cases_Bool}
 use Rattle.sets.specs.Bits.{flip}
 use Rattle.sets.specs.Lists.{In}
 use Rattle.sets.specs.Sets.{has, marks, odd, among}
-use Rattle.sets.proofs.Bits.{either, flip_assoc, flip_comm}
+use Rattle.sets.proofs.Bits.{flip_assoc, flip_comm}
 use Rattle.sets.proofs.Sets.{has_empty}
 
 pub length_marks : (n : ℕ) (l : List ℕ) → length (marks n l) ≡ n
@@ -18,7 +19,7 @@ length_marks n (k ∷ l) = length-set (marks n l) k true ∙ length_marks n l
 -- the set has exactly the listed numbers
 pub has_marks : (n : ℕ) (l : List ℕ) → ((q : ℕ) → In q l → q < n) → (q : ℕ) → has (marks n l) q ≡ among q l
 has_marks n [] low q = has_empty n q
-has_marks n (k ∷ l) low q = go (either (eqb q k)) (has_marks n l (λ p m. low p (inr m)) q)
+has_marks n (k ∷ l) low q = go (cases_Bool (eqb q k)) (has_marks n l (λ p m. low p (inr m)) q)
   where
     go : (eqb q k ≡ true) ⊎ (eqb q k ≡ false) → has (marks n l) q ≡ among q l → has (set (marks n l) k true) q ≡ (eqb q k || among q l)
     go (inl e) ih =

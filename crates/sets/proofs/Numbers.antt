@@ -2,10 +2,11 @@
 use Rattle.std.proofs.Common.{◌≡◌, ℕ, zero, suc, ◌+◌, ◌<◌, ◌≤◌, Bool, true, false, eqb, ◌⊎◌, List, [], ◌∷◌, length, sym, refl, ap, ◌∙◌, subst, inl, inr, true≢false, arith, eq-eqb, eqb-true}
 use mathlib.Core.Bool.{false≢true}
 use Rattle.std.specs.List.{range_with_len}
+use Rattle.std.proofs.lemmas.Bool.{false_from_ne_true, or_cases, or_left, or_right, or_parts, or_from}
 use Rattle.sets.specs.Lists.{In, Distinct}
 use Rattle.sets.specs.Sets.{has, size, elements_from, elements, among, repeats}
 use Rattle.sets.specs.Counts.{ToldOnce}
-use Rattle.sets.proofs.Bits.{clash, deny, or_cases, or_left, or_right, or_none, or_neither}
+use Rattle.sets.proofs.Bits.{clash}
 use Rattle.sets.proofs.Lists.{at_most}
 
 pub eqb_same : (a : ℕ) → eqb a a ≡ true
@@ -34,12 +35,12 @@ among_in k (j ∷ l) e = go (or_cases (eqb k j) (among k l) e) (among_in k l)
 pub repeats_distinct : (l : List ℕ) → repeats l ≡ false → Distinct l
 repeats_distinct [] e = tt
 repeats_distinct (k ∷ l) e =
-    let p = or_none (among k l) (repeats l) e in
+    let p = or_parts (among k l) (repeats l) e in
     (λ m. clash (in_among k l m) p.0, repeats_distinct l p.1)
 
 pub distinct_repeats : (l : List ℕ) → Distinct l → repeats l ≡ false
 distinct_repeats [] d = refl
-distinct_repeats (k ∷ l) d = or_neither (among k l) (repeats l) (deny (among k l) (λ e. d.0 (among_in k l e))) (distinct_repeats l d.1)
+distinct_repeats (k ∷ l) d = or_from (among k l) (repeats l) (false_from_ne_true (among k l) (λ e. d.0 (among_in k l e))) (distinct_repeats l d.1)
 
 -- the elements of a set lie where it counts from, are listed once, and are those that it has
 pub elements_low : (from : ℕ) (m : List Bool) (k : ℕ) → In k (elements_from from m) → from ≤ k

@@ -1,12 +1,13 @@
 -- What is in a set made from others; when two sets are equal; odd numbers of common elements.
 use Rattle.std.proofs.Common.{◌≡◌, ℕ, zero, suc, ◌<◌, Bool, true, false, not, ◌&&◌, ◌||◌, ◌⊎◌, List, [], ◌∷◌, ◌++◌, map, length, sym, refl, ap, ◌∙◌, inl, inr, arith, length-set, get_or-set_same}
+use Rattle.std.proofs.lemmas.Bool.{cases_Bool, and_parts, and_from, or_cases, or_left, or_right, or_parts, false_from_ne_true}
 use mathlib.Core.Bool.{false≢true}
 use lib.ListN.{length-replicate, length-map}
 use Rattle.sets.specs.Bits.{flip}
 use Rattle.sets.specs.Lists.{In}
 use Rattle.sets.specs.Sets.{has, row, over, join, meet, less, plus, empty, only, any, meets, within, holders, odd}
 use Rattle.sets.proofs.Lists.{in_get_or}
-use Rattle.sets.proofs.Bits.{either, clash, and_both, and_comm, and_pair, or_cases, or_left, or_right, or_none, deny, and_flip, flip_four, flip_false, flip_assoc}
+use Rattle.sets.proofs.Bits.{clash, and_comm, and_flip, flip_four, flip_false, flip_assoc}
 
 pub has_map : (f : Bool → Bool) → f false ≡ false → (m : List Bool) (k : ℕ) → has (map f m) k ≡ f (has m k)
 has_map f z [] k = sym z
@@ -78,18 +79,18 @@ pub within_length : (a b : List Bool) → within a b ≡ true → length a ≡ l
 within_length [] [] e = refl
 within_length [] (y ∷ b) e = absurd (false≢true e)
 within_length (x ∷ a) [] e = absurd (false≢true e)
-within_length (x ∷ a) (y ∷ b) e = ap suc (within_length a b (and_both (not x || y) (within a b) e).1)
+within_length (x ∷ a) (y ∷ b) e = ap suc (within_length a b (and_parts (not x || y) (within a b) e).1)
 
 pub within_has : (a b : List Bool) → within a b ≡ true → (k : ℕ) → has a k ≡ true → has b k ≡ true
 within_has [] [] e k h = h
 within_has [] (y ∷ b) e k h = absurd (false≢true e)
 within_has (x ∷ a) [] e k h = absurd (false≢true e)
-within_has (x ∷ a) (y ∷ b) e zero h = go x h (and_both (not x || y) (within a b) e).0
+within_has (x ∷ a) (y ∷ b) e zero h = go x h (and_parts (not x || y) (within a b) e).0
   where
     go : (x : Bool) → x ≡ true → (not x || y) ≡ true → y ≡ true
     go true h e = e
     go false h e = absurd (false≢true h)
-within_has (x ∷ a) (y ∷ b) e (suc k) h = within_has a b (and_both (not x || y) (within a b) e).1 k h
+within_has (x ∷ a) (y ∷ b) e (suc k) h = within_has a b (and_parts (not x || y) (within a b) e).1 k h
 
 pub has_within : (a b : List Bool) → length a ≡ length b → ((k : ℕ) → has a k ≡ true → has b k ≡ true) → within a b ≡ true
 has_within [] [] l h = refl
@@ -97,7 +98,7 @@ has_within [] (y ∷ b) l h = absurd (omega arith)
 has_within (x ∷ a) [] l h = absurd (omega arith)
 has_within (x ∷ a) (y ∷ b) l h =
     let l' : length a ≡ length b = omega arith in
-    and_pair (go x (h 0)) (has_within a b l' (λ k. h (suc k)))
+    and_from _ _ (go x (h 0)) (has_within a b l' (λ k. h (suc k)))
   where
     go : (x : Bool) → (x ≡ true → y ≡ true) → (not x || y) ≡ true
     go true f = f refl
@@ -105,8 +106,8 @@ has_within (x ∷ a) (y ∷ b) l h =
 
 pub any_none : (m : List Bool) → any m ≡ false → (k : ℕ) → has m k ≡ false
 any_none [] e k = refl
-any_none (x ∷ m) e zero = (or_none x (any m) e).0
-any_none (x ∷ m) e (suc k) = any_none m (or_none x (any m) e).1 k
+any_none (x ∷ m) e zero = (or_parts x (any m) e).0
+any_none (x ∷ m) e (suc k) = any_none m (or_parts x (any m) e).1 k
 
 pub any_some : (m : List Bool) → any m ≡ true → (k : ℕ) × (has m k ≡ true)
 any_some [] e = absurd (false≢true e)
@@ -124,8 +125,8 @@ has_any (x ∷ m) (suc k) e = or_right x (any m) (has_any m k e)
 pub meets_none : (a b : List Bool) → meets a b ≡ false → (k : ℕ) → has a k ≡ true → has b k ≡ true → ⊥
 meets_none [] b e k p q = false≢true p
 meets_none (x ∷ a) [] e k p q = false≢true q
-meets_none (x ∷ a) (y ∷ b) e zero p q = clash (and_pair p q) (or_none (x && y) (meets a b) e).0
-meets_none (x ∷ a) (y ∷ b) e (suc k) p q = meets_none a b (or_none (x && y) (meets a b) e).1 k p q
+meets_none (x ∷ a) (y ∷ b) e zero p q = clash (and_from _ _ p q) (or_parts (x && y) (meets a b) e).0
+meets_none (x ∷ a) (y ∷ b) e (suc k) p q = meets_none a b (or_parts (x && y) (meets a b) e).1 k p q
 
 pub meets_some : (a b : List Bool) → meets a b ≡ true → (k : ℕ) × (has a k ≡ true) × (has b k ≡ true)
 meets_some [] b e = absurd (false≢true e)
@@ -133,13 +134,13 @@ meets_some (x ∷ a) [] e = absurd (false≢true e)
 meets_some (x ∷ a) (y ∷ b) e = go (or_cases (x && y) (meets a b) e) (meets_some a b)
   where
     go : ((x && y) ≡ true) ⊎ (meets a b ≡ true) → (meets a b ≡ true → (k : ℕ) × (has a k ≡ true) × (has b k ≡ true)) → (k : ℕ) × (has (x ∷ a) k ≡ true) × (has (y ∷ b) k ≡ true)
-    go (inl p) ih = let r = and_both x y p in (0, r.0, r.1)
+    go (inl p) ih = let r = and_parts x y p in (0, r.0, r.1)
     go (inr p) ih = let r = ih p in (suc r.0, r.1, r.2)
 
 pub has_meets : (a b : List Bool) (k : ℕ) → has a k ≡ true → has b k ≡ true → meets a b ≡ true
 has_meets [] b k p q = absurd (false≢true p)
 has_meets (x ∷ a) [] k p q = absurd (false≢true q)
-has_meets (x ∷ a) (y ∷ b) zero p q = or_left (x && y) (meets a b) (and_pair p q)
+has_meets (x ∷ a) (y ∷ b) zero p q = or_left (x && y) (meets a b) (and_from _ _ p q)
 has_meets (x ∷ a) (y ∷ b) (suc k) p q = or_right (x && y) (meets a b) (has_meets a b k p q)
 
 pub has_mapped : (f : List Bool → Bool) → f [] ≡ false → (sets : List (List Bool)) (d : ℕ) → has (map f sets) d ≡ f (row sets d)
@@ -180,7 +181,7 @@ pub odd_apart : (c x : List Bool) → ((k : ℕ) → has c k ≡ true → has x 
 odd_apart [] x h = odd_nil x
 odd_apart (b ∷ c) [] h = refl
 odd_apart (b ∷ c) (x ∷ xs) h =
-    ap (λ t. flip t (odd c xs)) (deny (b && x) (λ e. let r = and_both b x e in h 0 r.0 r.1))
+    ap (λ t. flip t (odd c xs)) (false_from_ne_true (b && x) (λ e. let r = and_parts b x e in h 0 r.0 r.1))
     ∙ odd_apart c xs (λ k. h (suc k))
 
 pub odd_empty : (c : List Bool) (n : ℕ) → odd c (empty n) ≡ false
@@ -203,11 +204,11 @@ odd_one (b ∷ c) (x ∷ xs) zero p f =
     let e : odd c xs ≡ false = odd_apart c xs (λ i _ t. absurd (omega (arith, f (suc i) t))) in
     ap (λ t. flip (t && x) (odd c xs)) p ∙ ap (flip x) e ∙ flip_false x
 odd_one (b ∷ c) (x ∷ xs) (suc q) p f =
-    ap (λ t. flip t (odd c xs)) (deny (b && x) (λ t. absurd (omega (arith, f 0 (and_both b x t).1))))
+    ap (λ t. flip t (odd c xs)) (false_from_ne_true (b && x) (λ t. absurd (omega (arith, f 0 (and_parts b x t).1))))
     ∙ odd_one c xs q p (λ i t. let e : suc i ≡ suc q = f (suc i) t in omega arith)
 
 pub odd_only : (c : List Bool) (n k : ℕ) → k < n → odd c (only n k) ≡ has c k
-odd_only c n k h = elim (either (has c k)) [
+odd_only c n k h = elim (cases_Bool (has c k)) [
   | inl e ↦ odd_one c (only n k) k e (only_other n k) ∙ only_self n k h ∙ sym e
   | inr e ↦ odd_apart c (only n k) (λ i p q. clash (ap (has c) (sym (only_other n k i q)) ∙ p) e) ∙ sym e
 ]

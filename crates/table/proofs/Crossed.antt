@@ -2,15 +2,15 @@
 use Rattle.std.proofs.Common.{◌≡◌, ℕ, zero, suc, ◌+◌, ◌<◌, ◌≤◌, Bool, true, false, cond, ◌||◌, eqb, List, [], ◌∷◌, ◌++◌, map, length, get_or, take, replicate, sym, refl, ap, ◌∙◌, add-one, arith, eqb-true}
 use Rattle.std.proofs.lemmas.List.{length-map, length-take-le, get_or-map, take_more}
 use Rattle.std.proofs.lemmas.List.Sums.{sum_by-cons}
+use Rattle.std.proofs.lemmas.Bool.{or_parts}
 use Rattle.sets.specs.Sets.{has, elements_from, elements, among, repeats}
-use Rattle.sets.proofs.Bits.{or_none}
 use Rattle.rows.specs.Crossing.{times, namings, namers}
 use Rattle.rows.proofs.Named.{one_as}
 
 times_once : (q : ℕ) (row : List ℕ) → repeats row ≡ false → times q row ≡ cond (among q row) 1 0
 times_once q [] e = refl
 times_once q (p ∷ row) e =
-    let r = or_none (among p row) (repeats row) e in
+    let r = or_parts (among p row) (repeats row) e in
     sum_by-cons (λ x. cond (eqb q x) 1 0) p row ∙ go (eqb q p) refl r.0 (times_once q row r.1)
   where
     go : (b : Bool) → eqb q p ≡ b → among p row ≡ false → times q row ≡ cond (among q row) 1 0 → cond b 1 0 + times q row ≡ cond (b || among q row) 1 0

@@ -1,9 +1,10 @@
 -- A peel that is not refused.
 use Rattle.std.proofs.Common.{◌≡◌, ℕ, ◌+◌, ◌<◌, Bool, true, cond, not, eqb, ltb, List, length, Some, None, Ok, Result, sym, ap, ◌∙◌, arith, ltb-true, eqb-true}
+use Rattle.std.proofs.lemmas.Bool.{and_parts, not-false}
 use Rattle.terms.specs.declared.refusal.Refusal.{Refusal}
 use Rattle.terms.specs.declared.row.Row.TheVariants.{Check}
 use Rattle.sets.specs.Sets.{has, row, only, empty, size, among}
-use Rattle.sets.proofs.Bits.{clash, and_both, not_false}
+use Rattle.sets.proofs.Bits.{clash}
 use Rattle.sets.proofs.Sets.{has_below, has_meet}
 use Rattle.sets.proofs.Sizes.{one_of}
 use Rattle.meaning.specs.Meaning.{qubits}
@@ -27,22 +28,22 @@ module _ (t : Trial) (slip k : ℕ) (fine : None ≡ fault (peel_bars (code t) (
   clear = fault_clear (peel_bars (code t) (model t) slip k) (sym fine)
 
   pub is_check : k < length (code t).checks
-  is_check = ltb-true k (length (code t).checks) (not_false (ltb k (length (code t).checks)) clear.0)
+  is_check = ltb-true k (length (code t).checks) (not-false (ltb k (length (code t).checks)) clear.0)
 
   one : size (held (code t) (model t) k) ≡ 1
-  one = eqb-true (size (held (code t) (model t) k)) 1 (and_both (not (has (model t).closed k)) (eqb (size (held (code t) (model t) k)) 1) (not_false (dangling (code t) (model t) k) clear.1.1.0)).1
+  one = eqb-true (size (held (code t) (model t) k)) 1 (and_parts (not (has (model t).closed k)) (eqb (size (held (code t) (model t) k)) 1) (not-false (dangling (code t) (model t) k) clear.1.1.0)).1
 
   abbrev told : List ℕ
   told = told_of t.table.now (Check k)
 
   named : (q : ℕ) → among q told ≡ has (row (code t).checks k) q
-  named q = (table_tells t.table.now).names (Check k) (not_false (ltb k (length (code t).checks)) clear.0) q
+  named q = (table_tells t.table.now).names (Check k) (not-false (ltb k (length (code t).checks)) clear.0) q
 
   -- the row has an erased qubit
   pub some_erased : None ≡ first_in (model t).erased told → ⊥
   some_erased e =
       let q = one_of (held (code t) (model t) k) one in
-      let b = and_both (has (row (code t).checks k) q.0) (has (model t).erased q.0) (sym (has_meet (row (code t).checks k) (model t).erased q.0) ∙ q.1) in
+      let b = and_parts (has (row (code t).checks k) q.0) (has (model t).erased q.0) (sym (has_meet (row (code t).checks k) (model t).erased q.0) ∙ q.1) in
       clash b.1 (none_in (model t).erased told e q.0 (named q.0 ∙ b.0))
 
   module _ (q : ℕ) (found : Some q ≡ first_in (model t).erased told) where

@@ -1,8 +1,8 @@
 -- A prune that is not refused.
 use Rattle.std.proofs.Common.{◌≡◌, ℕ, ◌+◌, ◌<◌, true, ltb, List, None, Ok, Result, sym, ap, ◌∙◌, ltb-true}
+use Rattle.std.proofs.lemmas.Bool.{not-false}
 use Rattle.terms.specs.declared.refusal.Refusal.{Refusal}
 use Rattle.sets.specs.Sets.{has, only, empty}
-use Rattle.sets.proofs.Bits.{not_false}
 use Rattle.meaning.specs.Meaning.{qubits}
 use Rattle.rules.specs.Reports.{product}
 use Rattle.rules.specs.States.{State, finish, count}
@@ -21,10 +21,10 @@ module _ (t : Trial) (slip q : ℕ) (l : List ℕ) (fine : None ≡ fault (prune
   clear = fault_clear (prune_bars (code t) (model t) slip q l) (sym fine)
 
   pub is_qubit : q < qubits (code t)
-  is_qubit = ltb-true q (qubits (code t)) (not_false (ltb q (qubits (code t))) clear.0)
+  is_qubit = ltb-true q (qubits (code t)) (not-false (ltb q (qubits (code t))) clear.0)
 
   pub erased_is : has (model t).erased q ≡ true
-  erased_is = product_erased (code t) (model t).erased l clear.1.1.1.1.0 q (not_false (has (product (code t) l) q) clear.1.1.1.1.1.0)
+  erased_is = product_erased (code t) (model t).erased l clear.1.1.1.1.0 q (not-false (has (product (code t) l) q) clear.1.1.1.1.1.0)
 
   -- what is left by finishing the qubit and counting it is what a prune leaves
   pub prunes : (u : State) → u ≡ finish (code t) (only (qubits (code t)) q) (empty (qubits (code t))) (model t)

@@ -2,9 +2,9 @@
 use Rattle.std.proofs.Common.{◌≡◌, ℕ, ◌<◌, Bool, true, false, cond, ◌||◌, eqb, ◌≢◌, List, [], ◌∷◌, length, get_or, set, sym, refl, ap, ◌∙◌, arith, length-set, eqb-true}
 use borrow.Author.Tests.{eqb-false}
 use Rattle.std.proofs.lemmas.List.{get_or-set_same, get_or-set_other}
+use Rattle.std.proofs.lemmas.Bool.{false_from_ne_true, or_right}
 use Rattle.sets.specs.Lists.{Distinct}
 use Rattle.sets.specs.Sets.{has, among}
-use Rattle.sets.proofs.Bits.{deny, or_right}
 use Rattle.sets.proofs.Numbers.{among_in}
 use Rattle.upkeep.specs.Changed.{changed, marked}
 
@@ -22,7 +22,7 @@ module _ {X : Type 0} (d : X) (f : X → X) where
           → get_or (changed d f l (set xs j (f (get_or xs j d)))) k d ≡ cond (t || among k l) (f (get_or xs k d)) (get_or xs k d)
       go true e ih =
           let same : k ≡ j = eqb-true k j e in
-          let none : among k l ≡ false = deny (among k l) (λ m. once.0 (among_in j l (ap (λ i. among i l) (sym same) ∙ m))) in
+          let none : among k l ≡ false = false_from_ne_true (among k l) (λ m. once.0 (among_in j l (ap (λ i. among i l) (sym same) ∙ m))) in
           let low : j < length xs = omega arith in
           ih ∙ ap (λ t. cond t (f (get_or (set xs j (f (get_or xs j d))) k d)) (get_or (set xs j (f (get_or xs j d))) k d)) none ∙ ap (λ i. get_or (set xs j (f (get_or xs j d))) i d) same ∙ get_or-set_same xs j (f (get_or xs j d)) d low ∙ ap (λ i. f (get_or xs i d)) (sym same)
       go false e ih =

@@ -1,11 +1,11 @@
 -- One qubit that is done, and the checks that turn with it.
 use Rattle.std.proofs.Common.{◌≡◌, ℕ, ◌<◌, ◌≤◌, Bool, true, false, cond, not, ◌&&◌, ◌⊎◌, List, length, set, sym, refl, ap, ◌∙◌, inl, inr, arith, length-set}
 use Rattle.std.proofs.lemmas.List.{length-map, get_or-set_same, get_or-set_other, get_or_past}
-use Rattle.std.proofs.lemmas.Bool.{cases_eq, cases_lt}
+use Rattle.std.proofs.lemmas.Bool.{cases_eq, cases_lt, false_from_ne_true}
 use Rattle.sets.specs.Bits.{flip}
 use Rattle.sets.specs.Lists.{Distinct}
 use Rattle.sets.specs.Sets.{has, row, less, plus, empty, only, among}
-use Rattle.sets.proofs.Bits.{deny, flip_false, flip_comm}
+use Rattle.sets.proofs.Bits.{flip_false, flip_comm}
 use Rattle.sets.proofs.Sets.{ext, length_over, has_less, has_plus, only_self, only_other, length_only, odd_only, odd_empty}
 use Rattle.meaning.specs.Meaning.{Meaning, qubits}
 use Rattle.rules.specs.Reports.{syndrome}
@@ -19,7 +19,7 @@ at_only : (n q k : ℕ) → q < n → (k ≡ q) ⊎ (k ≡ q → ⊥) → (a : L
 at_only n q k low (inl e) a v long =
     let low' : q < length a = omega arith in
     inl (ap (has (only n q)) e ∙ only_self n q low, ap (has (set a q v)) e ∙ get_or-set_same a q v false low', e)
-at_only n q k low (inr d) a v long = inr (deny (has (only n q) k) (λ h. d (only_other n q k h)), get_or-set_other a q k v false d)
+at_only n q k low (inr d) a v long = inr (false_from_ne_true (has (only n q) k) (λ h. d (only_other n q k h)), get_or-set_other a q k v false d)
 
 module _ (n : ℕ) (a : List Bool) (long : length a ≡ n) (q : ℕ) (low : q < n) where
   pub less_only : less a (only n q) ≡ set a q false

@@ -2,10 +2,9 @@
 use Rattle.std.proofs.Common.{◌≡◌, ℕ, zero, suc, ◌<◌, ◌≤◌, Bool, true, false, not, ◌||◌, ltb, ◌⊎◌, List, [], ◌∷◌, map, length, get_or, set, replicate, sym, refl, ap, ◌∙◌, inl, inr, arith, ltb-true}
 use lib.ListN.{length-replicate}
 use Rattle.std.proofs.lemmas.List.{map-set, get_or-map, length-map, set-get_or, get_or_past}
-use Rattle.std.proofs.lemmas.Bool.{cases_lt}
+use Rattle.std.proofs.lemmas.Bool.{cases_lt, not-false, or_parts}
 use Rattle.sets.specs.Lists.{In}
 use Rattle.sets.specs.Sets.{has, empty, marks, among, elements}
-use Rattle.sets.proofs.Bits.{not_false, or_none}
 use Rattle.sets.proofs.Lists.{in_get_or}
 use Rattle.sets.proofs.Marks.{length_marks, has_marks}
 use Rattle.sets.proofs.Sets.{ext, has_empty}
@@ -24,8 +23,8 @@ use Rattle.upkeep.proofs.Holders.{holders_once, holders_named}
 -- none of a list lies past n
 pub past_in : (n : ℕ) (l : List ℕ) → some_past n l ≡ false → (q : ℕ) → In q l → q < n
 past_in n [] e q m = absurd m
-past_in n (k ∷ l) e q (inl s) = let b = or_none (not (ltb k n)) (some_past n l) e in let h = ltb-true k n (not_false (ltb k n) b.0) in omega arith
-past_in n (k ∷ l) e q (inr m) = past_in n l (or_none (not (ltb k n)) (some_past n l) e).1 q m
+past_in n (k ∷ l) e q (inl s) = let b = or_parts (not (ltb k n)) (some_past n l) e in let h = ltb-true k n (not-false (ltb k n) b.0) in omega arith
+past_in n (k ∷ l) e q (inr m) = past_in n l (or_parts (not (ltb k n)) (some_past n l) e).1 q m
 
 pub past_at : (n : ℕ) (l : List ℕ) → some_past n l ≡ false → (i : ℕ) → i < length l → get_or l i 0 < n
 past_at n l e i h = past_in n l e (get_or l i 0) (in_get_or l i 0 h)

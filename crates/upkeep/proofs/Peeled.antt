@@ -1,9 +1,10 @@
 -- The one erased qubit of a dangling check.
 use Rattle.std.proofs.Common.{◌≡◌, ℕ, ◌<◌, ◌≤◌, Bool, true, false, cond, not, ◌&&◌, eqb, [], length, Ok, Result, sym, refl, ap, ◌∙◌, ap₂, arith}
 use Rattle.std.proofs.lemmas.List.{get_or_past}
+use Rattle.std.proofs.lemmas.Bool.{and_from}
 use Rattle.terms.specs.declared.refusal.Refusal.{Refusal}
 use Rattle.sets.specs.Sets.{has, row, meet, only, empty, size, lowest}
-use Rattle.sets.proofs.Bits.{same, and_pair}
+use Rattle.sets.proofs.Bits.{same}
 use Rattle.sets.proofs.Sets.{ext, row_of, length_over, length_only, has_meet, has_any, has_below, only_self, only_other}
 use Rattle.sets.proofs.Sizes.{one_only, lowest_has, size_none}
 use Rattle.meaning.specs.Meaning.{Meaning, Sound, qubits}
@@ -12,7 +13,7 @@ use Rattle.rules.specs.Calls.{held, dangling}
 
 module _ (M : Meaning) (sound : Sound M) (s : State) (long : length s.erased ≡ qubits M) (c : ℕ) (check : c < length M.checks) (one : size (held M s c) ≡ 1) (q : ℕ) (inside : has (row M.checks c) q ≡ true) (lost : has s.erased q ≡ true) where
   here : has (held M s c) q ≡ true
-  here = has_meet (row M.checks c) s.erased q ∙ and_pair inside lost
+  here = has_meet (row M.checks c) s.erased q ∙ and_from _ _ inside lost
 
   low : q < qubits M
   low = omega (arith, has_below s.erased q lost)

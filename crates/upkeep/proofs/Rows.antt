@@ -1,7 +1,8 @@
 -- What the first qubit of a row in a set, and all of them in it, say of the row's own set.
 use Rattle.std.proofs.Common.{◌≡◌, ℕ, Bool, true, false, cond, eqb, ◌⊎◌, List, [], ◌∷◌, length, Some, None, sym, refl, ap, ◌∙◌, inl, inr, eqb-true}
+use Rattle.std.proofs.lemmas.Bool.{and_parts, and_from, or_left, or_right, or_cases}
 use Rattle.sets.specs.Sets.{has, among, within}
-use Rattle.sets.proofs.Bits.{same, clash, and_both, and_pair, or_left, or_right, or_cases}
+use Rattle.sets.proofs.Bits.{same, clash}
 use Rattle.sets.proofs.Numbers.{eqb_same}
 use Rattle.sets.proofs.Sets.{within_has, has_within}
 use Rattle.upkeep.specs.Rows.{first_in, all_in}
@@ -28,7 +29,7 @@ none_in m (k ∷ row) e q h = go (has m k) refl e (λ x. none_in m row x q) (or_
 
 all_in_lem : (m : List Bool) (row : List ℕ) → all_in m row ≡ true → (q : ℕ) → among q row ≡ true → has m q ≡ true
 all_in_lem m [] e q h = absurd (clash h refl)
-all_in_lem m (k ∷ row) e q h = let b = and_both (has m k) (all_in m row) e in go b (λ x. all_in_lem m row b.1 q x) (or_cases (eqb q k) (among q row) h)
+all_in_lem m (k ∷ row) e q h = let b = and_parts (has m k) (all_in m row) e in go b (λ x. all_in_lem m row b.1 q x) (or_cases (eqb q k) (among q row) h)
   where
     go : (has m k ≡ true) × (all_in m row ≡ true) → (among q row ≡ true → has m q ≡ true) → (eqb q k ≡ true) ⊎ (among q row ≡ true) → has m q ≡ true
     go b ih (inl e) = ap (has m) (eqb-true q k e) ∙ b.0
@@ -36,7 +37,7 @@ all_in_lem m (k ∷ row) e q h = let b = and_both (has m k) (all_in m row) e in 
 
 in_all : (m : List Bool) (row : List ℕ) → ((q : ℕ) → among q row ≡ true → has m q ≡ true) → all_in m row ≡ true
 in_all m [] f = refl
-in_all m (k ∷ row) f = and_pair (f k (or_left (eqb k k) (among k row) (eqb_same k))) (in_all m row (λ q h. f q (or_right (eqb q k) (among q row) h)))
+in_all m (k ∷ row) f = and_from _ _ (f k (or_left (eqb k k) (among k row) (eqb_same k))) (in_all m row (λ q h. f q (or_right (eqb q k) (among q row) h)))
 
 -- all qubits of a row that is told whole lie in m exactly if its set does
 pub all_within : (m set : List Bool) (row : List ℕ) → length set ≡ length m → ((q : ℕ) → among q row ≡ has set q) → all_in m row ≡ within set m

@@ -1,5 +1,5 @@
 use Rattle.std.proofs.Common.{◌&&◌, ltb, length, get_or, vec_items, arith, ltb-true}
-use Rattle.sets.proofs.Bits.{and_both}
+use Rattle.std.proofs.lemmas.Bool.{and_parts}
 use Rattle.meaning.specs.Telling.{is_row}
 use Rattle.meaning.proofs.Answered.{answered}
 use Rattle.code.proofs.Appended.{appended_more, appended_all}
@@ -12,7 +12,7 @@ loop-k-preserved g c =
     let k = c.loop-k.k in
     let q = c.in-Some-row_qubit.qubit in
     let a = answered (is_row M c.args.row && ltb k (length ns)) (get_or ns k 0) q c.in-Some-row_qubit.ensures in
-    let low = ltb-true k (length ns) (and_both (is_row M c.args.row) (ltb k (length ns)) a.0).1 in (
+    let low = ltb-true k (length ns) (and_parts (is_row M c.args.row) (ltb k (length ns)) a.0).1 in (
       appended_more ns (vec_items c.reserve.new.self) (vec_items c.loop-k.list) (vec_items c.push_reserved.new.self) k q low c.loop-k.invariant.0 c.push_reserved.ensures.items a.1,
       omega (arith, c.loop-k.invariant.1, c.push_reserved.ensures.len, c.push_reserved.ensures.capacity),
     )

@@ -2,18 +2,19 @@ use Rattle.std.proofs.Common.{◌≡◌, ℕ, zero, suc, ◌<◌, Bool, true, fa
 use native.Mathlib.Numerals.{unary_clauses}
 use Rattle.std.specs.List.{IsAllAdjacentAnswer}
 use Rattle.std.proofs.lemmas.List.Sorted.{answers_always}
-use Rattle.sets.proofs.Bits.{and_both, and_pair, clash}
+use Rattle.std.proofs.lemmas.Bool.{and_parts, and_from}
+use Rattle.sets.proofs.Bits.{clash}
 use Rattle.rules.specs.Reports.{rises, rises_from}
 use Rattle.marking.proofs.looking.is_rising.Goals as goal
 
 all_rise : (a : ℕ) (l : List ℕ) → ((k : ℕ) → k < length l → ltb (get_or (a ∷ l) k 0) (get_or l k 0) ≡ true) → rises_from a l ≡ true
 all_rise a [] h = refl
-all_rise a (b ∷ l) h = and_pair (h 0 (omega arith)) (all_rise b l (λ k lt. h (suc k) (omega arith)))
+all_rise a (b ∷ l) h = and_from _ _ (h 0 (omega arith)) (all_rise b l (λ k lt. h (suc k) (omega arith)))
 
 rises_at : (a : ℕ) (l : List ℕ) → rises_from a l ≡ true → (k : ℕ) → k < length l → ltb (get_or (a ∷ l) k 0) (get_or l k 0) ≡ true
 rises_at a [] e k lt = absurd (omega arith)
-rises_at a (b ∷ l) e zero lt = (and_both (ltb a b) (rises_from b l) e).0
-rises_at a (b ∷ l) e (suc k) lt = rises_at b l (and_both (ltb a b) (rises_from b l) e).1 k (omega arith)
+rises_at a (b ∷ l) e zero lt = (and_parts (ltb a b) (rises_from b l) e).0
+rises_at a (b ∷ l) e (suc k) lt = rises_at b l (and_parts (ltb a b) (rises_from b l) e).1 k (omega arith)
 
 -- what the library says of neighbours, said of the list
 rises_is : (list : List ℕ) (r : Bool) → IsAllAdjacentAnswer (λ x y b. b ≡ ltb x y) list r → r ≡ rises list

@@ -3,9 +3,9 @@ use Rattle.std.specs.List.{list_any}
 use Rattle.std.proofs.lemmas.Iterator.{YieldsList-from_slice}
 use Rattle.std.proofs.lemmas.Iterator.Search.{any_from_yields_List}
 use Rattle.std.proofs.lemmas.List.{length-map}
+use Rattle.std.proofs.lemmas.Bool.{or_parts, not-false}
 use Rattle.terms.specs.declared.row.Row.TheVariants.{Generator}
 use Rattle.sets.specs.Sets.{row, within}
-use Rattle.sets.proofs.Bits.{or_none, not_false}
 use Rattle.sets.proofs.Sets.{row_of}
 use Rattle.meaning.specs.Meaning.{qubits}
 use Rattle.rules.specs.declared.answers.Status.{Status}
@@ -32,8 +32,8 @@ told_outside : (t : Table) (status : List Status) → length status ≡ qubits (
 told_outside t status fit [] named = refl
 told_outside t status fit (g ∷ l) named =
     let n = length (meaning_of t).generators in
-    let b = or_none (not (ltb g n)) (some_past n l) named in
-    ap₂ (λ x y. not x || y) (told_within t status fit g (not_false (ltb g n) b.0)) (told_outside t status fit l b.1)
+    let b = or_parts (not (ltb g n)) (some_past n l) named in
+    ap₂ (λ x y. not x || y) (told_within t status fit g (not-false (ltb g n) b.0)) (told_outside t status fit l b.1)
 
 pub returns : goal.returns
 returns c =

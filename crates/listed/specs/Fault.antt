@@ -1,5 +1,5 @@
 -- What is wrong with a listed code, if anything: the first fault in a fixed order.
-use Rattle.std.specs.Prelude.{ℕ, Bool, cond, ◌||◌, nat_lt, List, map, length, Some, None, Option, ◌==◌, nat_le, nat_lt}
+use Rattle.std.specs.Prelude.{ℕ, Bool, cond, ◌||◌, List, map, length, Some, None, Option, ◌==◌, nat_le, nat_lt}
 use Rattle.terms.specs.declared.refusal.Refusal.{Refusal}
 use Rattle.terms.specs.declared.refusal.Refusal.TheVariants.{OutsideLimits, QubitTooLarge, NotRising, LawFails}
 use Rattle.sets.specs.Sets.{marks, any, odd, repeats}

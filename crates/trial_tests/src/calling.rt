@@ -1,5 +1,5 @@
 //! Calls on one trial.
-ghost use Rattle.std.specs.Prelude.{◌≡◌, ◌⊎◌, ℕ, ◌+◌, ◌<◌, ◌≤◌, List, length, None, nat_lt, slice_index_or, vec_len, vec_capacity};
+ghost use Rattle.std.specs.Prelude.{◌≡◌, ◌⊎◌, ℕ, ◌+◌, ◌<◌, ◌≤◌, List, length, None, nat_lt, position, slice_index_or, vec_len, vec_capacity};
 ghost use Rattle.trial_tests.specs.Slips.{out, outs, held_by, held, trial_numbers, Own, OpensOne};
 
 use crate::telling::{Answer, Told};
@@ -179,10 +179,16 @@ fn first_out(tallies: &[Tally]) -> usize
     ensures place { result < length tallies.now }
     ensures count { (d : Tally) → 0 < out (slice_index_or tallies.now result d) }
 {
-    match tallies.iter().position(counts_out) {
+    match place_out(tallies) {
         Some(place) => place,
         None => unreachable(),
     }
+}
+
+fn place_out(tallies: &[Tally]) -> Option<usize>
+    ensures { result ≡ position (λ t. nat_lt 0 (out t)) tallies.now }
+{
+    tallies.iter().position(counts_out)
 }
 
 /// Whether the tally counts a slip out.

@@ -19,8 +19,8 @@ pub(crate) enum Answer {
 
 /// What came of a call that answers nothing to be told.
 impl<T: Drop> From<Result<T, Refusal>> for Answer {
-    fn from(result: Result<T, Refusal>) -> Answer {
-        match result {
+    fn from(told: Result<T, Refusal>) -> Answer {
+        match told {
             Ok(_) => Answer::Done,
             Err(refusal) => Answer::Refused(refusal),
         }

@@ -1,9 +1,9 @@
 //! The code that is held, and what it answers.
-use crate::reading::Question;
 use code::Code;
 use code::turned::Turned;
 use listed::Listed;
 use played::codes::{listed_in, product_in};
+use played::line::Line;
 use played::numbers::Numbers;
 use played::refused::Refused;
 use product::product::Product;
@@ -25,7 +25,7 @@ impl Held {
     pub(crate) fn play(
         self,
         heap: Global,
-        question: &Question,
+        question: &Line,
     ) -> Result<(Held, String), AllocError> {
         let numbers = question.numbers();
         match question.word() {
@@ -40,7 +40,7 @@ impl Held {
     fn after(
         self,
         heap: Global,
-        question: &Question,
+        question: &Line,
         made: Result<Held, Refusal>,
     ) -> Result<(Held, String), AllocError> {
         match made {
@@ -61,7 +61,7 @@ impl Held {
     /// The code, and its answer.
     // Kept: an arm for each code, all with the one generic call. A function that lends the code to a closure would take an
     // `FnOnce(&dyn Code) -> R`, and the check cannot state an item with such a bound.
-    fn answered(self, heap: Global, question: &Question) -> Result<(Held, String), AllocError> {
+    fn answered(self, heap: Global, question: &Line) -> Result<(Held, String), AllocError> {
         let answer = match &self {
             Held::Nothing if question.word() == "turned" => String::from_str(heap, "nothing"),
             Held::Nothing => String::from_str(heap, "none"),
@@ -75,7 +75,7 @@ impl Held {
 }
 
 /// The answer of a code: its sizes where it was just made, and what it answers to a question.
-fn answer_of<C: Code>(heap: Global, code: &C, question: &Question) -> Result<String, AllocError> {
+fn answer_of<C: Code>(heap: Global, code: &C, question: &Line) -> Result<String, AllocError> {
     if let "product" | "listed" | "turned" = question.word() {
         let qubits = code.qubits();
         let checks = code.checks();
@@ -88,7 +88,7 @@ fn answer_of<C: Code>(heap: Global, code: &C, question: &Question) -> Result<Str
     }
 }
 
-fn ask_code<C: Code>(code: &C, question: &Question) -> Option<u16> {
+fn ask_code<C: Code>(code: &C, question: &Line) -> Option<u16> {
     let mut numbers = Numbers::new(question.numbers());
     let first = numbers.short();
     let second = numbers.short();

@@ -6,10 +6,9 @@
 #![tactic(auto)]
 
 mod held;
-mod reading;
 
 use held::Held;
-use reading::Question;
+use played::line::Line;
 use std::io::{BufRead, BufReader};
 
 fn main(rt: HostRuntime) -> anyhow::Result<()> {
@@ -17,7 +16,7 @@ fn main(rt: HostRuntime) -> anyhow::Result<()> {
     let mut held = Held::Nothing;
     for line in BufReader::new(heap, rt.stdin())?.lines(heap) {
         let line = line?;
-        let question = Question::read(heap, line.as_str())?;
+        let question = Line::read(heap, line.as_str(), u32::from(u16::MAX))?;
         let (now, answer) = held.play(heap, &question)?;
         held = now;
         rt.println(answer)?;

@@ -1,3 +1,4 @@
 pub mod Making
 pub mod Printing
 pub mod Reading
+pub mod Words

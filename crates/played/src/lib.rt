@@ -2,5 +2,6 @@
 #![tactic(auto)]
 
 pub mod codes;
+pub mod line;
 pub mod numbers;
 pub mod refused;

@@ -4,8 +4,8 @@ ghost use Rattle.trial_tests.specs.Slips.{outs, held, trial_numbers, Own};
 
 use crate::calling::{churn_at, close_all, close_at, keep, open_at, peel, prune};
 use crate::codes::Made;
-use crate::reading::Step;
 use crate::telling::{Answer, Bytes, Counted, State, Told};
+use played::line::Line;
 use played::numbers::Numbers;
 use std::alloc::Global;
 use trial::slip::Slip;
@@ -36,9 +36,9 @@ impl<'t> Bench<'t> {
     }
 
     /// Makes the call of a step and prints its line.
-    pub(crate) fn play(&mut self, rt: &HostRuntime, step: &Step) -> anyhow::Result<()> {
+    pub(crate) fn play(&mut self, rt: &HostRuntime, step: &Line) -> anyhow::Result<()> {
         let heap = rt.alloc();
-        let mut numbers = step.numbers();
+        let mut numbers = Numbers::new(step.numbers());
         let told = match step.word() {
             "tally" => self.new_tally()?,
             "open" => self.open(heap, &mut numbers)?,

@@ -1,8 +1,10 @@
 //! The codes of a sequence and their tables.
-use crate::reading::Step;
+use crate::reading::asks_code;
+use code::Code;
 use code::turned::Turned;
 use listed::Listed;
 use played::codes::{listed_in, product_in};
+use played::line::Line;
 use played::numbers::Numbers;
 use played::refused::Refused;
 use product::product::Product;
@@ -44,11 +46,11 @@ impl Codes {
     }
 
     /// The answer to a step about codes; none to another step.
-    pub(crate) fn play(&mut self, heap: Global, step: &Step) -> Result<Option<String>, AllocError> {
+    pub(crate) fn play(&mut self, heap: Global, step: &Line) -> Result<Option<String>, AllocError> {
         let made = match step.word() {
-            "product" => self.make_product(heap, step.all_numbers()),
-            "listed" => self.make_listed(heap, step.all_numbers()),
-            "turned" => self.make_turned(heap, step.numbers()),
+            "product" => self.make(heap, product_in(heap, step.numbers()), Source::Product),
+            "listed" => self.make(heap, listed_in(heap, step.numbers()), Source::Listed),
+            "turned" => self.make_turned(heap, Numbers::new(step.numbers())),
             _ => return self.ask(heap, step),
         };
         let answer = match made {
@@ -59,16 +61,15 @@ impl Codes {
         Ok(Some(answer))
     }
 
-    fn make_product(&mut self, heap: Global, numbers: &[u32]) -> Result<String, Refusal> {
-        let code = product_in(heap, numbers)?;
+    fn make<C: Code + Drop>(
+        &mut self,
+        heap: Global,
+        made: Result<C, Refusal>,
+        source: impl FnOnce(C) -> Source,
+    ) -> Result<String, Refusal> {
+        let code = made?;
         let table = Table::of(heap, &code)?;
-        self.keep(heap, Source::Product(code), table)
-    }
-
-    fn make_listed(&mut self, heap: Global, numbers: &[u32]) -> Result<String, Refusal> {
-        let code = listed_in(heap, numbers)?;
-        let table = Table::of(heap, &code)?;
-        self.keep(heap, Source::Listed(code), table)
+        self.keep(heap, source(code), table)
     }
 
     fn make_turned(&mut self, heap: Global, numbers: Numbers) -> Result<String, Refusal> {
@@ -93,11 +94,11 @@ impl Codes {
         Ok(format!(in heap; "ok {qubits} {checks} {generators}")?)
     }
 
-    fn ask(&self, heap: Global, step: &Step) -> Result<Option<String>, AllocError> {
-        if !step.asks_code() {
+    fn ask(&self, heap: Global, step: &Line) -> Result<Option<String>, AllocError> {
+        if !asks_code(step.word()) {
             return Ok(None);
         }
-        let mut numbers = step.numbers();
+        let mut numbers = Numbers::new(step.numbers());
         let made = self.made.get(numbers.place());
         let answer = made.and_then(|made| ask_table(&made.table, step.word(), numbers));
         Ok(Some(match answer {

@@ -22,7 +22,7 @@ mod telling;
 
 use bench::Bench;
 use codes::Codes;
-use reading::{Sequence, read_sequences};
+use reading::{Sequence, asks_code, makes_code, read_sequences};
 
 fn main(rt: HostRuntime) -> anyhow::Result<()> {
     let sequences = read_sequences(&rt)?;
@@ -52,7 +52,7 @@ fn play_codes(rt: &HostRuntime, sequence: &Sequence) -> anyhow::Result<Codes> {
 /// Plays the other steps.
 fn play_trials(rt: &HostRuntime, sequence: &Sequence, bench: &mut Bench) -> anyhow::Result<()> {
     for step in sequence.steps.iter() {
-        if !step.makes_code() && !step.asks_code() {
+        if !makes_code(step.word()) && !asks_code(step.word()) {
             bench.play(rt, step)?;
         }
     }

@@ -81,6 +81,7 @@ impl<T: Value> Echelon<T> {
         ensures below { IfSome result (λ j. j < self.now.width) }
         ensures reduced { Reduced T.Value.field self.now.width self.now.cells.items row.old (unwrap_or result self.now.width) row.new }
     {
+        // Kept: by number, for each turn changes what is left of the row, which an iterator over it would lend.
         for j in 0..self.width {
             let c = row[j + 1];
             if !c.is_zero() {
@@ -129,6 +130,7 @@ impl<T: Value> Echelon<T> {
         requires { length out.old ≡ self.now.width }
         ensures { out.new ≡ least T.Value.field (basis_of T.Value.field self.now.width self.now.cells.items) }
     {
+        // Kept: by number, for what is written at j is made of what stands behind it.
         for j in (0..self.width).rev() {
             out[j] = if self.is_free(j) {
                 T::zero()

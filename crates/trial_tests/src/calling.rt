@@ -53,6 +53,8 @@ pub(crate) fn prune(
 }
 
 /// Opens on one of the tallies.
+// Kept: a list and a place, here and in two calls below. `Bench` knows the sum over all its tallies; lent one tally, it would have to say in its
+// own body what the others count.
 pub(crate) fn open_at<'t>(
     heap: Global,
     table: &'t Table,

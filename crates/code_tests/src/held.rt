@@ -22,11 +22,7 @@ pub(crate) enum Held {
 
 impl Held {
     /// The code after the question, and the answer.
-    pub(crate) fn play(
-        self,
-        heap: Global,
-        question: &Line,
-    ) -> Result<(Held, String), AllocError> {
+    pub(crate) fn play(self, heap: Global, question: &Line) -> Result<(Held, String), AllocError> {
         let numbers = question.numbers();
         match question.word() {
             "product" => self.after(heap, question, product_in(heap, numbers).map(Held::Product)),

@@ -22,8 +22,7 @@ module _ (largest : ℕ) {text rest next : List ℕ} (w : List ℕ) (numbers wor
 
   pub number_read : (n : ℕ) → Some n ≡ number_of largest w → ReadsOn largest text next (numbers ++ n ∷ []) word
   number_read n is ws splits =
-      let g = before (w ∷ ws) (next, starts, splits) in
-      (
+      let g = before (w ∷ ws) (next, starts, splits) in (
         g.0,
         g.1,
         append_assoc numbers (n ∷ []) (numbers_among largest ws) ∙ ap (λ o. numbers ++ cons_option o (numbers_among largest ws)) is ∙ g.2,
@@ -32,8 +31,7 @@ module _ (largest : ℕ) {text rest next : List ℕ} (w : List ℕ) (numbers wor
 
   pub other_read : None ≡ number_of largest w → ReadsOn largest text next numbers (word ++ w)
   other_read is ws splits =
-      let g = before (w ∷ ws) (next, starts, splits) in
-      (
+      let g = before (w ∷ ws) (next, starts, splits) in (
         g.0,
         g.1,
         ap (λ o. numbers ++ cons_option o (numbers_among largest ws)) is ∙ g.2,

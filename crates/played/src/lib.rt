@@ -1,4 +1,4 @@
-//! What the programs share that play recorded lines to codes and trials: the numbers of a line, and the codes that they give.
+//! What the programs share that play recorded lines to codes and trials: a line as its word and its numbers, and the codes that these give.
 #![tactic(auto)]
 
 pub mod codes;

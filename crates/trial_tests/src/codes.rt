@@ -61,12 +61,14 @@ impl Codes {
         Ok(Some(answer))
     }
 
-    fn make<C: Code + Drop>(
+    fn make<C: Code + Drop, F: FnOnce(C) -> Source>(
         &mut self,
         heap: Global,
         made: Result<C, Refusal>,
-        source: impl FnOnce(C) -> Source,
-    ) -> Result<String, Refusal> {
+        source: F,
+    ) -> Result<String, Refusal>
+        requires { F.IsAlwaysCallable source }
+    {
         let code = made?;
         let table = Table::of(heap, &code)?;
         self.keep(heap, source(code), table)

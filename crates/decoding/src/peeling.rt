@@ -31,7 +31,7 @@ pub fn decode_by_peeling<C: Code>(
     for c in checks {
         let _ = trial.peel(&slip, *c);
     }
-    // Kept: the error holds the slip, which cannot be let go, so neither `?` nor `map_err` takes it.
+    // Kept: `?`, `map_err` and `let .. else` would let go of the slip that the error holds, which a slip forbids.
     match trial.close(slip, tally) {
         Ok(verdict) => Ok(verdict),
         Err(_) => unreachable(),

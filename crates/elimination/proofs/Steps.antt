@@ -174,12 +174,6 @@ module _ {F : Type 0} (K : Field F) where
             kept = λ no-growth. absurd (no-growth refl);
           }
 
-  pub ended_reduced : (w : ℕ) (T r₀ r : List F) (j : ℕ) → w ≤ j → j ≤ w → At w T r₀ j r → Reduced K w T r₀ w r
-  ended_reduced w T r₀ r j a b s =
-      let e : j ≡ w = omega arith in
-      let no : w ≤ w = omega arith in
-      record { within = omega arith; passed = subst (λ (i : ℕ). Passed K w T r₀ i r) e s.passed; stops = λ h. absurd (omega arith) }
-
   module _ (w : ℕ) (T r₀ r : List F) (j : ℕ) (a : w ≤ j) (n : length r ≡ w + 1) (s : Reduced K w T r₀ j r) (x : F) (e : x ≡ get_or r 0 x) where
     pub end_is : wrap K (rows_of (suc w) w T) j (ended (is x zer)) ≡ insert K (basis_of K w T) (drop 1 r₀) (get_or r₀ 0 zer)
     end_is =

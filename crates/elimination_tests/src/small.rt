@@ -48,20 +48,13 @@ impl System {
         (0..self.checks).all(|i| !odd(self.left(i), x))
     }
 
-    // Kept: as chains, one counting and one finding the least, this would try every subset twice.
     /// The number of solutions, and the least.
     pub(crate) fn solutions(self) -> (u32, Option<u32>) {
-        let mut count = 0u32;
-        let mut least = None;
-        for x in 0..power(self.unknowns) {
-            if self.explained(x) {
-                if count == 0 {
-                    least = Some(x);
-                }
-                count = count.wrapping_add(1);
-            }
-        }
-        (count, least)
+        (0..power(self.unknowns))
+            .filter(|x| self.explained(*x))
+            .fold((0u32, None), |(count, least), x| {
+                (count.wrapping_add(1), least.or(Some(x)))
+            })
     }
 
     /// Whether some subset is even on every check and odd on this row.

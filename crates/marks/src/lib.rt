@@ -9,7 +9,7 @@ use terms::refusal::Refusal;
 
 /// Holds scratch bytes during a walk over qubits. Of them the first `qubits` serve as marks; they are zero again once the guard ends,
 /// and the others are never touched.
-// Kept: over the first bytes alone, what the caller's buffer ends as would be an `ensures*` on a part of it; the clause on the lender is an equation.
+// Kept: the clause `lender` says that the guard holds the caller's own slice; a part of it is another borrow, and what the bytes behind it are would be unknown.
 pub struct Marks<'a> {
     scratch: &'a mut [u8],
     qubits: usize,

@@ -34,10 +34,8 @@ fn list(heap: Global, arguments: Args) -> Result<String, Refusal> {
 
 /// The arguments after the program's name, if each is a number.
 fn numbers_in(heap: Global, arguments: Args) -> Result<Vec<u16>, Refusal> {
-    let mut numbers = Vec::new(heap);
-    for argument in arguments.skip(1) {
-        let number = argument.parse::<u16>().map_err(|_| Refusal::NotAwaited)?;
-        numbers.push(number)?;
-    }
-    Ok(numbers)
+    arguments
+        .skip(1)
+        .map(|argument| argument.parse::<u16>().map_err(|_| Refusal::NotAwaited))
+        .try_collect(heap)
 }

@@ -64,7 +64,7 @@ struct Told<'c, C: Code> {
 impl<C: Code> fmt::Display for Told<'_, C> {
     ghost output = { λ t. Some (flat_map told_qubit (C.Code.told t.code.now t.row)) };
 
-    // Kept: qubit by qubit; the code's `tell_row` would put them into a list, which takes memory for each row.
+    // Kept: qubit by qubit; `tell_row` appends to a list, and `fmt` is given no memory for one.
     fn fmt<W: fmt::Write>(&self, f: &mut fmt::Formatter<W>) -> fmt::Result {
         let Some(len) = self.code.row_len(self.row) else {
             return unreachable();

@@ -18,7 +18,7 @@ mod pruning;
 pub mod viewing;
 
 /// A trial on the code of a table. All its memory is taken when it is opened; no later call allocates.
-// Kept: one list for each, since `View` lends them as plain slices, and each rule of a call reads or changes one of them alone.
+// Kept: one list for each, since `View`'s public fields lend each as a slice, and the sets of the rules are read off them one by one.
 #[derive(Drop)]
 pub struct Trial<'t> {
     table: &'t Table,

@@ -8,4 +8,3 @@ pub mod Rows
 pub mod Finish
 pub mod Peeled
 pub mod Opened
-pub mod Named

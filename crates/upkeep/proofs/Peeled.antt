@@ -36,10 +36,6 @@ module _ (M : Meaning) (sound : Sound M) (s : State) (long : length s.erased ≡
       let b = sym held_only in
       λ i. (Ok (a i), count 1 0 0 (finish M (b i) (cond (has s.odds c) (b i) (empty (qubits M))) s))
 
--- whether a check is dangling, by its count of erased qubits
-pub dangling_is : (M : Meaning) (s : State) (c n : ℕ) (cl : Bool) → cl ≡ has s.closed c → n ≡ size (held M s c) → (not cl && eqb n 1) ≡ dangling M s c
-dangling_is M s c n cl e k = ap₂ (λ x y. not x && eqb y 1) e k
-
 -- what is no check is not dangling
 pub dangling_past : (M : Meaning) (s : State) (c : ℕ) → length M.checks ≤ c → false ≡ dangling M s c
 dangling_past M s c h = sym (ap (λ r. not (has s.closed c) && eqb (size (meet r s.erased)) 1) (get_or_past M.checks c [] h) ∙ ap (λ n. not (has s.closed c) && eqb n 1) (size_none (λ y. false && y) (λ y. refl) s.erased) ∙ no (not (has s.closed c)))

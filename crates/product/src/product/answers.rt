@@ -84,7 +84,7 @@ impl Product {
         }
     }
 
-    // Kept: two functions that differ in where their parts begin and step, for each has a definition of its own to equal.
+    // Kept: one function for both kinds would take where the two parts begin and how they step, four numbers that each call would have to compute.
     /// Check (b, a): the (b, b') with a one in row a and column b', and the (a', a) with a one in row a' and column b.
     fn check_parts(&self, b: u16, a: u16) -> Parts
         requires { (b < self.now.columns) × (a < self.now.rows) }

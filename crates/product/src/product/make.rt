@@ -57,7 +57,7 @@ fn rises(places: &[Place]) -> bool
 }
 
 /// Puts a one at a place of a line.
-// Kept: a function on the array of words; a struct around it with methods would put `.0` in each clause and theorem that reads the seed.
+// Kept: a function on the array of words, called twice; a type around the array would stand in each invariant and clause that reads the words.
 fn mark(words: &mut [u32; 32], line: u16, place: u16)
     requires { (line < 32) × (place < 32) }
     ensures { (a b : ℕ) → one_at words.new a b ≡ ((a == line && b == place) || one_at words.old a b) }

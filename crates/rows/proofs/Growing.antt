@@ -6,10 +6,11 @@ use Rattle.rows.specs.declared.Span.{Span}
 use Rattle.rows.specs.declared.crossing.Columns.{Columns}
 use Rattle.rows.specs.Columns.{HasRoom, Grows}
 use Rattle.rows.specs.Cut.{cut, none}
-use Rattle.rows.specs.Growing.{span_at, Room, Grown, Counted}
+use Rattle.rows.specs.Growing.{span_at, Room, Grown, Tallied}
 
-pub counted_then : (f g h : ℕ → ℕ) (a b c : List ℕ) → length b ≡ length a → ((q : ℕ) → h q ≡ f q + g q) → Counted f a b → Counted g b c → Counted h a c
-counted_then f g h a b c l e m n q k = omega (arith, m q k, n q (omega arith), e q)
+pub tallied_then : (f g h : ℕ → ℕ) (a b c : List ℕ) → ((q : ℕ) → h q ≡ f q + g q) → Tallied f a b → Tallied g b c → Tallied h a c
+tallied_then f g h a b c e m n =
+    record { counted = λ q k. omega (arith, m.counted q k, n.counted q (omega (arith, m.as_many)), e q); as_many = n.as_many ∙ m.as_many }
 
 -- columns that grew by f, and then by g
 module _ (f g h : ℕ → List ℕ) (a b : Columns) (m : Grows f a b) where

@@ -21,6 +21,11 @@ pub record Grown (more : ℕ → List ℕ) (spans : List Span) (places : List �
 abbrev pub Counted : (ℕ → ℕ) → List ℕ → List ℕ → Type 0
 Counted more counts counts' = (q : ℕ) → q < length counts → slice_index counts' q ≡ slice_index counts q + more q
 
+-- each count q has grown by `more q`, and there are as many
+pub record Tallied (more : ℕ → ℕ) (counts counts' : List ℕ) : Type 0 where
+  pub counted : Counted more counts counts'
+  pub as_many : length counts' ≡ length counts
+
 -- for each number q below n, how long `more q` is
 pub record Counts (more : ℕ → List ℕ) (n : ℕ) (counts : List ℕ) : Type 0 where
   pub long : length counts ≡ n

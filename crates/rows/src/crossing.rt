@@ -3,7 +3,7 @@ ghost use Rattle.std.specs.Prelude.{◌≡◌, [], ◌∷◌, map, length, IfOk,
 ghost use Rattle.std.specs.List.{range_with_len};
 ghost use Rattle.rows.specs.Crossing.{times, namings, namers};
 ghost use Rattle.rows.specs.Columns.{HasRoom, Grows};
-ghost use Rattle.rows.specs.Growing.{Counted, Counts, Laid};
+ghost use Rattle.rows.specs.Growing.{Tallied, Counts, Laid};
 
 use super::{Rows, Span};
 use std::alloc::{AllocError, Global};
@@ -29,12 +29,12 @@ fn counted(rows: &Rows, heap: Global, count: u16, columns: u16) -> Result<Vec<us
     ensures { IfOk result (λ v. Counts (λ q. namers rows.now q count) columns v.items) }
 {
     let mut counts: Vec<usize> = vec![in heap; 0; columns as usize]?;
-    count_rows(rows, count, counts.as_mut_slice())?;
+    count_rows(rows, count, &mut counts)?;
     Ok(counts)
 }
 
-fn count_rows(rows: &Rows, count: u16, counts: &mut [usize]) -> Result<(), AllocError>
-    ensures { OnOk result (Counted (λ q. length (namers rows.now q count)) counts.old counts.new) }
+fn count_rows(rows: &Rows, count: u16, counts: &mut Vec<usize>) -> Result<(), AllocError>
+    ensures { OnOk result (Tallied (λ q. length (namers rows.now q count)) counts.old.items counts.new.items) }
 {
     for row in rows.iter().take(count as usize) {
         count_row(row, counts)?;
@@ -42,8 +42,8 @@ fn count_rows(rows: &Rows, count: u16, counts: &mut [usize]) -> Result<(), Alloc
     Ok(())
 }
 
-fn count_row(row: &[u16], counts: &mut [usize]) -> Result<(), AllocError>
-    ensures { OnOk result (Counted (λ q. times q row.now) counts.old counts.new) }
+fn count_row(row: &[u16], counts: &mut Vec<usize>) -> Result<(), AllocError>
+    ensures { OnOk result (Tallied (λ q. times q row.now) counts.old.items counts.new.items) }
 {
     for q in row {
         count_one(*q as usize, counts)?;
@@ -52,12 +52,11 @@ fn count_row(row: &[u16], counts: &mut [usize]) -> Result<(), AllocError>
 }
 
 /// Counts one number; what is no column is passed over. More places than a `usize` counts are more than there is memory for.
-fn count_one(q: usize, counts: &mut [usize]) -> Result<(), AllocError>
-    ensures { OnOk result (Counted (λ p. (if nat_eq p q then 1 else 0)) counts.old counts.new) }
+fn count_one(q: usize, counts: &mut Vec<usize>) -> Result<(), AllocError>
+    ensures { OnOk result (Tallied (λ p. (if nat_eq p q then 1 else 0)) counts.old.items counts.new.items) }
 {
-    // Kept: an index and no `get_mut`, after which a proof would know of a slice's length alone.
-    if q < counts.len() {
-        counts[q] = counts[q].checked_add(1).ok_or(AllocError)?;
+    if let Some(count) = counts.get_mut(q) {
+        *count = count.checked_add(1).ok_or(AllocError)?;
     }
     Ok(())
 }
@@ -89,9 +88,8 @@ impl Columns {
         requires { HasRoom (λ q. namers rows.now q count) self.old }
         ensures { Grows (λ q. namers rows.now q count) self.old self.new }
     {
-        // Kept: the loop goes over numbers, for a row's number is what is written; a `zip` of numbers and rows would name it no less.
-        for k in 0..count {
-            self.mark_row(k, rows.row(k as usize));
+        for (k, row) in (0..count).zip(rows.iter()) {
+            self.mark_row(k, row);
         }
     }
 

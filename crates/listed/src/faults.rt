@@ -1,6 +1,7 @@
 //! The faults of listed tables.
-ghost use Rattle.std.specs.Prelude.{◌≡◌, ◌||◌, ◌++◌, length, is_err};
+ghost use Rattle.std.specs.Prelude.{◌≡◌, ℕ, Bool, List, ◌||◌, ◌++◌, length, is_err};
 ghost use Rattle.std.specs.List.{list_any};
+ghost use Rattle.std.specs.Fn.{FnReturnsAt};
 ghost use Rattle.terms.specs.Answering.{checked};
 ghost use Rattle.terms.specs.Rows.{side_numbered};
 ghost use Rattle.sets.specs.Sets.{repeats};
@@ -11,63 +12,95 @@ use rows::Rows;
 use terms::refusal::Refusal;
 use terms::row::Side;
 
-/// Refuses tables with a fault, by the first one.
-pub(crate) fn check(checks: &Rows, generators: &Rows, sides: &[u8]) -> Result<(), Refusal>
-    ensures { result ≡ checked (listed_fault checks.now generators.now sides.now) }
-{
-    if outside_limits(checks, generators, sides) {
-        return Err(Refusal::OutsideLimits);
-    }
-    if some_too_large(checks, generators, sides.len()) {
-        return Err(Refusal::QubitTooLarge);
-    }
-    if some_repeats(checks, generators) {
-        return Err(Refusal::NotRising);
-    }
-    // From here on each row names a qubit once, so that counting its places counts its qubits.
-    if law_fails(checks, generators) {
-        return Err(Refusal::LawFails);
-    }
-    Ok(())
+/// The tables of a code, which may have faults.
+#[derive(Clone, Copy)]
+pub(crate) struct Tables<'a> {
+    pub(crate) checks: &'a Rows,
+    pub(crate) generators: &'a Rows,
+    pub(crate) sides: &'a [u8],
 }
 
-/// Whether a size or a side is outside its limits.
-fn outside_limits(checks: &Rows, generators: &Rows, sides: &[u8]) -> bool
-    ensures { result ≡ (wrong_sizes (length checks.now) (length generators.now) (length sides.now) || list_any too_long (checks.now ++ generators.now) || list_any (λ n. is_err (side_numbered n)) sides.now) }
-{
-    sides.is_empty()
-        || sides.len() > 2048
-        || checks.len() > 256
-        || generators.len() > 256
-        || some_too_long(checks, generators)
-        || some_unsided(sides)
-}
+impl<'a> Tables<'a> {
+    /// Refuses tables with a fault, by the first one.
+    pub(crate) fn check(&self) -> Result<(), Refusal>
+        ensures { result ≡ checked (listed_fault self.now.checks.now self.now.generators.now self.now.sides.now) }
+    {
+        if self.outside_limits() {
+            return Err(Refusal::OutsideLimits);
+        }
+        if self.some_too_large() {
+            return Err(Refusal::QubitTooLarge);
+        }
+        if self.some_repeats() {
+            return Err(Refusal::NotRising);
+        }
+        // From here on each row names a qubit once, so that counting its places counts its qubits.
+        if self.law_fails() {
+            return Err(Refusal::LawFails);
+        }
+        Ok(())
+    }
 
-/// Whether a number is that of no side.
-fn some_unsided(sides: &[u8]) -> bool
-    ensures { result ≡ list_any (λ n. is_err (side_numbered n)) sides.now }
-{
-    sides.iter().any(|side| Side::try_from(*side).is_err())
-}
+    /// Whether a size or a side is outside its limits.
+    fn outside_limits(&self) -> bool
+        ensures { result ≡ (wrong_sizes (length self.now.checks.now) (length self.now.generators.now) (length self.now.sides.now) || list_any too_long (self.now.checks.now ++ self.now.generators.now) || list_any (λ n. is_err (side_numbered n)) self.now.sides.now) }
+    {
+        self.sides.is_empty()
+            || self.sides.len() > 2048
+            || self.checks.len() > 256
+            || self.generators.len() > 256
+            || self.some_row(|row| row.len() > 16)
+            || self.some_unsided()
+    }
 
-/// Whether a row has more than 16 numbers.
-fn some_too_long(checks: &Rows, generators: &Rows) -> bool
-    ensures { result ≡ list_any too_long (checks.now ++ generators.now) }
-{
-    checks
-        .iter()
-        .chain(generators.iter())
-        .any(|row| row.len() > 16)
-}
+    /// Whether a number is that of no side.
+    fn some_unsided(&self) -> bool
+        ensures { result ≡ list_any (λ n. is_err (side_numbered n)) self.now.sides.now }
+    {
+        self.sides.iter().any(|side| Side::try_from(*side).is_err())
+    }
 
-/// Whether a row names a number that is not below `qubits`.
-fn some_too_large(checks: &Rows, generators: &Rows, qubits: usize) -> bool
-    ensures { result ≡ list_any (too_large qubits) (checks.now ++ generators.now) }
-{
-    checks
-        .iter()
-        .chain(generators.iter())
-        .any(|row| too_large(row, qubits))
+    /// Whether a row names a number of no qubit.
+    fn some_too_large(&self) -> bool
+        ensures { result ≡ list_any (too_large (length self.now.sides.now)) (self.now.checks.now ++ self.now.generators.now) }
+    {
+        let qubits = self.sides.len();
+        self.some_row(|row| too_large(row, qubits))
+    }
+
+    /// Whether a row names a number twice.
+    fn some_repeats(&self) -> bool
+        ensures { result ≡ list_any repeats (self.now.checks.now ++ self.now.generators.now) }
+    {
+        self.some_row(|row| repeats(row))
+    }
+
+    /// Whether a check or a generator passes the test.
+    fn some_row<F: Fn(&[u16]) -> bool>(&self, test: F) -> bool
+        requires { F.IsAlwaysCallable test }
+        ensures { (p : List ℕ → Bool) → ((row : List ℕ) (b : Bool) → FnReturnsAt F.Fn test row b → b ≡ p row) → result ≡ list_any p (self.now.checks.now ++ self.now.generators.now) }
+    {
+        self.checks
+            .iter()
+            .chain(self.generators.iter())
+            .any(|row| test(row))
+    }
+
+    /// Whether a check and a generator share an odd number of qubits.
+    fn law_fails(&self) -> bool
+        ensures { result ≡ list_any (λ c. list_any (shares_odd c) self.now.generators.now) self.now.checks.now }
+    {
+        self.checks.iter().any(|check| self.shares_odd_with(check))
+    }
+
+    /// Whether the check shares an odd number of qubits with a generator.
+    fn shares_odd_with(&self, check: &[u16]) -> bool
+        ensures { result ≡ list_any (shares_odd check.now) self.now.generators.now }
+    {
+        self.generators
+            .iter()
+            .any(|generator| shares_odd(check, generator))
+    }
 }
 
 fn too_large(row: &[u16], qubits: usize) -> bool
@@ -77,15 +110,6 @@ fn too_large(row: &[u16], qubits: usize) -> bool
 }
 
 /// Whether a row names a number twice.
-fn some_repeats(checks: &Rows, generators: &Rows) -> bool
-    ensures { result ≡ list_any repeats (checks.now ++ generators.now) }
-{
-    checks
-        .iter()
-        .chain(generators.iter())
-        .any(|row| repeats(row))
-}
-
 fn repeats(row: &[u16]) -> bool
     ensures { result ≡ repeats row.now }
 {
@@ -93,24 +117,6 @@ fn repeats(row: &[u16]) -> bool
         Some((q, later)) => later.contains(q) || repeats(later),
         None => false,
     }
-}
-
-/// Whether a check and a generator share an odd number of qubits.
-fn law_fails(checks: &Rows, generators: &Rows) -> bool
-    ensures { result ≡ list_any (λ c. list_any (shares_odd c) generators.now) checks.now }
-{
-    checks
-        .iter()
-        .any(|check| shares_odd_with(generators, check))
-}
-
-/// Whether the check shares an odd number of qubits with a generator.
-fn shares_odd_with(generators: &Rows, check: &[u16]) -> bool
-    ensures { result ≡ list_any (shares_odd check.now) generators.now }
-{
-    generators
-        .iter()
-        .any(|generator| shares_odd(check, generator))
 }
 
 fn shares_odd(check: &[u16], generator: &[u16]) -> bool

@@ -6,7 +6,7 @@ ghost use Rattle.listed.specs.Fault.{listed_fault};
 ghost use Rattle.listed.specs.OfListed.{sides_of, meaning_of, told_of};
 
 use super::Listed;
-use crate::faults::check;
+use crate::faults::Tables;
 use rows::Rows;
 use terms::refusal::Refusal;
 
@@ -15,7 +15,12 @@ impl Listed {
     pub fn new(sides: Vec<u8>, checks: Rows, generators: Rows) -> Result<Listed, Refusal>
         ensures { Answers result (listed_fault checks generators sides.items) (λ c. (meaning_of c ≡ listed_code checks generators (sides_of sides.items)) × (told_of c ≡ listed_told checks generators)) }
     {
-        check(&checks, &generators, &sides)?;
+        let tables = Tables {
+            checks: &checks,
+            generators: &generators,
+            sides: &sides,
+        };
+        tables.check()?;
         Ok(Listed {
             checks,
             generators,

@@ -1,7 +1,7 @@
 use Rattle.std.proofs.Common.{ap}
 use Rattle.terms.specs.Answering.{checked}
 use Rattle.listed.proofs.Chain.{fault_limits, fault_large, fault_twice, fault_law, fault_none}
-use Rattle.listed.proofs.faults.check.Goals as goal
+use Rattle.listed.proofs.faults.Tables.check.Goals as goal
 
 pub returns-then-outside_limits : goal.returns-then-outside_limits
 returns-then-outside_limits c = ap checked (fault_limits _ _ _ c.if-outside_limits.ensures)

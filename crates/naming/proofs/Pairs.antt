@@ -3,11 +3,7 @@ use Rattle.std.proofs.Common.{◌≡◌, ℕ, zero, suc, ◌+◌, ◌*◌, ◌<�
 use Rattle.std.specs.List.{range_with_len}
 use Rattle.std.specs.Simd.{first_chunks}
 use Rattle.std.proofs.lemmas.List.{get_or-drop, drop-drop, get_or-take}
-use Rattle.product.specs.declared.place.Place.{Place}
-use Rattle.naming.specs.Texts.{place_at}
-
-abbrev pub place_of : List ℕ → Place
-place_of c = record { row = get_or c 0 0; column = get_or c 1 0 }
+use Rattle.naming.specs.Texts.{place_of, place_at}
 
 at : (l : List ℕ) (m j i : ℕ) → j < 2 → i ≡ m + j → get_or (take 2 (drop m l)) j 0 ≡ get_or l i 0
 at l m j i h e = get_or-take 2 (drop m l) j 0 h ∙ get_or-drop m l j 0 ∙ ap (λ k. get_or l k 0) (sym e)

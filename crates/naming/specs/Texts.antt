@@ -26,6 +26,10 @@ refusal_text f = refusal_words f ++ codes "\n"
 abbrev pub place_at : List ℕ → ℕ → Place
 place_at numbers k = record { row = slice_index numbers (2 * k + 2); column = slice_index numbers (2 * k + 3) }
 
+-- two numbers as a place
+abbrev pub place_of : List ℕ → Place
+place_of c = record { row = slice_index c 0; column = slice_index c 1 }
+
 abbrev pub places_of : List ℕ → List Place
 places_of numbers = map (place_at numbers) (range_with_len 0 ((length numbers - 2) / 2))
 

@@ -1,9 +1,9 @@
 //! The whole list of names, and the line for a refusal.
-ghost use Rattle.std.specs.Prelude.{◌≡◌, ◌*◌, ◌<◌, ◌≤◌, length, IfOk, string_bytes, Some};
+ghost use Rattle.std.specs.Prelude.{◌≡◌, ◌*◌, ◌<◌, ◌≤◌, length, map, IfOk, string_bytes, Some};
 ghost use Rattle.terms.specs.Answering.{AnswersIfMemory};
 ghost use Rattle.meaning.specs.Product.{product_told};
 ghost use Rattle.product.specs.Seed.{seed_fault, seed_of};
-ghost use Rattle.naming.specs.Texts.{names_text, refusal_text, places_of, count_fault};
+ghost use Rattle.naming.specs.Texts.{names_text, refusal_text, place_of, places_of, count_fault};
 
 use crate::kind::Kind;
 use crate::lines::{Qubits, Rows};
@@ -96,12 +96,18 @@ pub fn places_in(heap: Global, numbers: &[u16]) -> Result<Vec<Place>, Refusal>
     let (pairs, []) = rest.as_chunks::<2>() else {
         return Err(Refusal::OutsideLimits);
     };
-    let mut places = Vec::new(heap);
-    for [row, column] in pairs {
-        places.push(Place {
+    let places = placed(heap, pairs)?;
+    Ok(places)
+}
+
+fn placed(heap: Global, pairs: &[[u16; 2]]) -> Result<Vec<Place>, AllocError>
+    ensures { IfOk result (λ v. v.items ≡ map place_of pairs.now) }
+{
+    pairs
+        .iter()
+        .map(|[row, column]| Place {
             row: *row,
             column: *column,
-        })?;
-    }
-    Ok(places)
+        })
+        .collect(heap)
 }

@@ -64,8 +64,8 @@ fn bytes_of(heap: Global, sides: &[u16]) -> Result<Vec<u8>, AllocError>
 
 /// A count and so many rows.
 fn rows_in(heap: Global, numbers: &mut Numbers<'_>) -> Result<Rows, AllocError>
-    ensures rows { IfOk result (λ r. r ≡ counted_rows numbers.old.rest.now) }
-    ensures rest { OnOk result (numbers.new.rest.now ≡ after_counted_rows numbers.old.rest.now) }
+    ensures rows { IfOk result (λ r. r ≡ counted_rows numbers.old) }
+    ensures rest { OnOk result (numbers.new ≡ after_counted_rows numbers.old) }
 {
     let count = numbers.next();
     let mut rows = Rows::new(heap);

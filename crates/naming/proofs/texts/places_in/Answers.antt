@@ -3,8 +3,8 @@ use Rattle.std.specs.Simd.{first_chunks}
 use Rattle.std.proofs.lemmas.List.{length-drop, take_all}
 use Rattle.terms.specs.declared.refusal.Refusal.TheVariants.{WrongEnd, OutsideLimits}
 use Rattle.terms.proofs.Answering.{memory_ok}
-use Rattle.naming.specs.Texts.{count_fault}
-use Rattle.naming.proofs.Pairs.{place_of, pairs_places}
+use Rattle.naming.specs.Texts.{place_of, count_fault}
+use Rattle.naming.proofs.Pairs.{pairs_places}
 use Rattle.naming.proofs.texts.places_in.Goals as goal
 
 counted : (l : List ℕ) → 2 ≤ length l → (length l % 2 ≡ 1 → ⊥) → count_fault l ≡ None
@@ -19,4 +19,4 @@ returns c =
     let half : length (take (length l - 2) (drop 2 l)) / 2 ≡ (length l - 2) / 2 = ap (λ x. length x / 2) rest ∙ ap (λ k. k / 2) n in
     let pairs : c.as_chunks.result.0.now ≡ first_chunks 2 ((length l - 2) / 2) (drop 2 l) = c.as_chunks.ensures.front ∙ (λ i. first_chunks 2 (half i) (rest i)) in
     memory_ok _ _ _ (counted l c.in-len2-up.len_at_least even)
-    (c.loop-row.invariant ∙ ap (map place_of) (take_all c.loop-row.row-index c.as_chunks.result.0.now c.loop-row-test.false ∙ pairs) ∙ pairs_places l 0 ((length l - 2) / 2) 2 (omega arith))
+    (c.in_ok-places.ensures ∙ ap (map place_of) pairs ∙ pairs_places l 0 ((length l - 2) / 2) 2 (omega arith))

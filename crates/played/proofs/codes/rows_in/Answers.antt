@@ -10,7 +10,7 @@ pub loop-read-preserved : goal.loop-read-preserved
 loop-read-preserved c =
     let n = c.next-count.result in
     let k = c.loop-read._read in
-    let l = c.loop-read.numbers.rest.now in
+    let l = c.loop-read.numbers in
     let m = n - (k + 1) in
     let e = one_less n k c.loop-read-test.true in
     let row = c.as_slice.ensures.value ∙ c.in_ok-row.ensures.items in

@@ -5,6 +5,6 @@ use Rattle.played.proofs.codes.rows_in.Given as goal
 -- what is still to be read, after what was
 abbrev pub invariant-loop-read : goal.invariant-loop-read
 invariant-loop-read l = record {
-  rows : l.rows ++ rows_in (l.count - l._read) l.numbers.rest.now ≡ rows_in l.count l.initial.numbers.rest.now;
-  rest : after_rows_in (l.count - l._read) l.numbers.rest.now ≡ after_rows_in l.count l.initial.numbers.rest.now;
+  rows : l.rows ++ rows_in (l.count - l._read) l.numbers ≡ rows_in l.count l.initial.numbers;
+  rest : after_rows_in (l.count - l._read) l.numbers ≡ after_rows_in l.count l.initial.numbers;
 }

@@ -6,7 +6,7 @@ use Rattle.played.proofs.numbers.Numbers.list.Goals as goal
 
 pub loop-read-preserved : goal.loop-read-preserved
 loop-read-preserved c =
-    let l = c.next-count.new.self.rest.now in
+    let l = c.next-count.new.self in
     let k = c.loop-read._read in
     let read : c.short.result ≡ short (get_or l k 0) = c.short.ensures.value ∙ ap (λ r. short (get_or r 0 0)) c.loop-read.invariant.rest ∙ ap short (get_or-drop k l 0 0 ∙ ap (λ i. get_or l i 0) (omega arith)) in
     record {

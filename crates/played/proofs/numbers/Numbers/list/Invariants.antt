@@ -4,6 +4,6 @@ use Rattle.played.proofs.numbers.Numbers.list.Given as goal
 
 abbrev pub invariant-loop-read : goal.invariant-loop-read
 invariant-loop-read l = record {
-  items : vec_items l.list ≡ shorts l.initial.self.rest.now l._read;
-  rest : l.self.rest.now ≡ drop l._read l.initial.self.rest.now;
+  items : vec_items l.list ≡ shorts l.initial.self l._read;
+  rest : l.self ≡ drop l._read l.initial.self;
 }

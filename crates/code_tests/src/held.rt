@@ -2,6 +2,7 @@
 use code::Code;
 use code::turned::Turned;
 use listed::Listed;
+use played::answers::{Found, Sizes};
 use played::codes::{listed_in, product_in};
 use played::line::Line;
 use played::numbers::Numbers;
@@ -60,7 +61,7 @@ impl Held {
     fn answered(self, heap: Global, question: &Line) -> Result<(Held, String), AllocError> {
         let answer = match &self {
             Held::Nothing if question.word() == "turned" => String::from_str(heap, "nothing"),
-            Held::Nothing => String::from_str(heap, "none"),
+            Held::Nothing => format!(in heap; "{}", Found(None)),
             Held::Product(code) => answer_of(heap, code, question),
             Held::TurnedProduct(code) => answer_of(heap, code, question),
             Held::Listed(code) => answer_of(heap, code, question),
@@ -73,15 +74,14 @@ impl Held {
 /// The answer of a code: its sizes where it was just made, and what it answers to a question.
 fn answer_of<C: Code>(heap: Global, code: &C, question: &Line) -> Result<String, AllocError> {
     if let "product" | "listed" | "turned" = question.word() {
-        let qubits = code.qubits();
-        let checks = code.checks();
-        let generators = code.generators();
-        return format!(in heap; "ok {qubits} {checks} {generators}");
+        let sizes = Sizes {
+            qubits: code.qubits(),
+            checks: code.checks(),
+            generators: code.generators(),
+        };
+        return format!(in heap; "{sizes}");
     }
-    match ask_code(code, question) {
-        Some(number) => format!(in heap; "{number}"),
-        None => String::from_str(heap, "none"),
-    }
+    format!(in heap; "{}", Found(ask_code(code, question)))
 }
 
 fn ask_code<C: Code>(code: &C, question: &Line) -> Option<u16> {

@@ -53,8 +53,8 @@ pub(crate) fn prune(
 }
 
 /// Opens on one of the tallies.
-// Kept: a list and a place, here and in two calls below. `Bench` knows the sum over all its tallies; lent one tally, it would have to say in its
-// own body what the others count.
+// Kept: a list and a place, here, in `close_at` and in `churn_at`. Each says what its call does to the sum over all tallies, which `Bench` knows;
+// one function with a closure would need a clause that carries what the closure says of one tally to the sum, and be called with three such.
 pub(crate) fn open_at<'t>(
     heap: Global,
     table: &'t Table,

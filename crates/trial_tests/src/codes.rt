@@ -1,8 +1,8 @@
 //! The codes of a sequence and their tables.
-use crate::reading::asks_code;
 use code::Code;
 use code::turned::Turned;
 use listed::Listed;
+use played::answers::{Found, Sizes};
 use played::codes::{listed_in, product_in};
 use played::line::Line;
 use played::numbers::Numbers;
@@ -51,7 +51,15 @@ impl Codes {
             "product" => self.make(heap, product_in(heap, step.numbers()), Source::Product),
             "listed" => self.make(heap, listed_in(heap, step.numbers()), Source::Listed),
             "turned" => self.make_turned(heap, Numbers::new(step.numbers())),
-            _ => return self.ask(heap, step),
+            _ => {
+                return match Question::read(step) {
+                    Some(question) => Ok(Some(format!(in heap;
+                        "{}",
+                        Found(self.answer(question))
+                    )?)),
+                    None => Ok(None),
+                };
+            }
         };
         let answer = match made {
             Ok(sizes) => sizes,
@@ -89,42 +97,56 @@ impl Codes {
 
     /// Keeps a code and tells its sizes.
     fn keep(&mut self, heap: Global, source: Source, table: Table) -> Result<String, Refusal> {
-        let qubits = table.qubits();
-        let checks = table.checks();
-        let generators = table.generators();
+        let sizes = Sizes {
+            qubits: table.qubits(),
+            checks: table.checks(),
+            generators: table.generators(),
+        };
         self.made.push(Made { source, table })?;
-        Ok(format!(in heap; "ok {qubits} {checks} {generators}")?)
+        Ok(format!(in heap; "{sizes}")?)
     }
 
-    fn ask(&self, heap: Global, step: &Line) -> Result<Option<String>, AllocError> {
-        if !asks_code(step.word()) {
-            return Ok(None);
+    /// Questions go to the table, which has to answer as the code does.
+    fn answer(&self, question: Question) -> Option<u16> {
+        let Made { table, .. } = self.made.get(question.code)?;
+        match question.asked {
+            Asked::Side(qubit) => Some(u16::from(u8::from(table.side(qubit)?))),
+            Asked::Size(Row::Check(k)) if k >= table.checks() => None,
+            Asked::Size(Row::Generator(k)) if k >= table.generators() => None,
+            Asked::Size(row) => u16::try_from(table.row(row).len()).ok(),
+            Asked::Qubit(row, place) => table.row(row).get(place).copied(),
         }
+    }
+}
+
+/// A question to one of the codes.
+#[derive(Drop)]
+struct Question {
+    code: usize,
+    asked: Asked,
+}
+
+#[derive(Drop)]
+enum Asked {
+    Side(u16),
+    Size(Row),
+    Qubit(Row, usize),
+}
+
+impl Question {
+    /// None where the step asks nothing of a code.
+    fn read(step: &Line) -> Option<Question> {
         let mut numbers = Numbers::new(step.numbers());
-        let made = self.made.get(numbers.place());
-        let answer = made.and_then(|made| ask_table(&made.table, step.word(), numbers));
-        Ok(Some(match answer {
-            Some(number) => format!(in heap; "{number}")?,
-            None => String::from_str(heap, "none")?,
-        }))
+        let code = numbers.place();
+        let first = numbers.short();
+        let asked = match step.word() {
+            "side" => Asked::Side(first),
+            "check_size" => Asked::Size(Row::Check(first)),
+            "generator_size" => Asked::Size(Row::Generator(first)),
+            "check_qubit" => Asked::Qubit(Row::Check(first), numbers.place()),
+            "generator_qubit" => Asked::Qubit(Row::Generator(first), numbers.place()),
+            _ => return None,
+        };
+        Some(Question { code, asked })
     }
-}
-
-/// Questions go to the table, which has to answer as the code does.
-fn ask_table(table: &Table, word: &str, numbers: Numbers) -> Option<u16> {
-    let mut numbers = numbers;
-    let first = numbers.short();
-    let second = numbers.place();
-    match word {
-        "side" => Some(u16::from(u8::from(table.side(first)?))),
-        "check_size" if first < table.checks() => size_of_row(table, Row::Check(first)),
-        "generator_size" if first < table.generators() => size_of_row(table, Row::Generator(first)),
-        "check_qubit" => table.row(Row::Check(first)).get(second).copied(),
-        "generator_qubit" => table.row(Row::Generator(first)).get(second).copied(),
-        _ => None,
-    }
-}
-
-fn size_of_row(table: &Table, row: Row) -> Option<u16> {
-    u16::try_from(table.row(row).len()).ok()
 }

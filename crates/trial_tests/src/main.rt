@@ -22,39 +22,42 @@ mod telling;
 
 use bench::Bench;
 use codes::Codes;
-use reading::{Sequence, asks_code, makes_code, read_sequences};
+use played::line::Line;
+use reading::{Sequence, read_sequences};
 
 fn main(rt: HostRuntime) -> anyhow::Result<()> {
     let sequences = read_sequences(&rt)?;
     for sequence in sequences.iter() {
-        let codes = play_codes(&rt, sequence)?;
+        let (codes, calls) = play_codes(&rt, sequence)?;
         let mut bench = Bench::new(rt.alloc(), codes.made());
-        let played = play_trials(&rt, sequence, &mut bench);
+        let played = play_calls(&rt, calls.as_slice(), &mut bench);
         bench.end();
         played?;
     }
     Ok(())
 }
 
-/// Plays the steps about codes.
-fn play_codes(rt: &HostRuntime, sequence: &Sequence) -> anyhow::Result<Codes> {
+/// Plays the steps about codes, and gives the others back.
+fn play_codes<'s>(
+    rt: &HostRuntime,
+    sequence: &'s Sequence,
+) -> anyhow::Result<(Codes, Vec<&'s Line>)> {
     let heap = rt.alloc();
     rt.println(sequence.heading.as_str())?;
     let mut codes = Codes::new(heap);
+    let mut calls = Vec::new(heap);
     for step in sequence.steps.iter() {
-        if let Some(answer) = codes.play(heap, step)? {
-            rt.println(answer)?;
+        match codes.play(heap, step)? {
+            Some(answer) => rt.println(answer)?,
+            None => calls.push(step)?,
         }
     }
-    Ok(codes)
+    Ok((codes, calls))
 }
 
-/// Plays the other steps.
-fn play_trials(rt: &HostRuntime, sequence: &Sequence, bench: &mut Bench) -> anyhow::Result<()> {
-    for step in sequence.steps.iter() {
-        if !makes_code(step.word()) && !asks_code(step.word()) {
-            bench.play(rt, step)?;
-        }
+fn play_calls(rt: &HostRuntime, calls: &[&Line], bench: &mut Bench) -> anyhow::Result<()> {
+    for call in calls {
+        bench.play(rt, *call)?;
     }
     Ok(())
 }

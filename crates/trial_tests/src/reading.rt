@@ -6,19 +6,7 @@ use std::io::{BufRead, BufReader};
 #[derive(Drop)]
 pub(crate) struct Sequence {
     pub(crate) heading: String,
-    // Kept: steps are told apart by their words, each in the one `match` that makes its call; an enum of calls would list each word once more.
     pub(crate) steps: Vec<Line>,
-}
-
-pub(crate) fn makes_code(word: &str) -> bool {
-    matches!(word, "product" | "listed" | "turned")
-}
-
-pub(crate) fn asks_code(word: &str) -> bool {
-    matches!(
-        word,
-        "side" | "check_size" | "generator_size" | "check_qubit" | "generator_qubit"
-    )
 }
 
 /// All sequences of standard input. A line before the first heading is passed over.

@@ -14,11 +14,13 @@ use echelon::{Echelon, MOST, STRIDE};
 /// A system of checks over some unknowns, reduced as each check comes in.
 ///
 /// The columns of the table are the unknowns, the highest first, so that the solution with every free unknown zero is the least.
+// Kept: by `Holds` each contract speaks of every system that the tables may hold. Many lists of checks come to the same tables, and a ghost field could name but one.
 #[derive(Drop)]
 pub struct Elimination<T> {
     echelon: Echelon<T>,
     contradicts: bool,
-    // Kept: both are as long as the most unknowns ask for, and the first places of them are used: no call but `new` may want memory.
+    // Kept: both are as long as the most unknowns ask for, and the first places of them are used, since no call but `new` may want memory. A list as
+    // long as it is used would be refilled at each `begin` by a loop of `push_reserved`, and have two facts, on length and on room, where it has one.
     /// The check that is being written, in the order of the table's rows.
     row: Vec<T>,
     /// The least solution, once solved.

@@ -113,6 +113,7 @@ fn too_large(row: &[u16], qubits: usize) -> bool
 fn repeats(row: &[u16]) -> bool
     ensures { result ≡ repeats row.now }
 {
+    // Kept: with `is_some_and` the closure would be in the cycle of calls, and need a clause and a measure of its own.
     match row.split_first() {
         Some((q, later)) => later.contains(q) || repeats(later),
         None => false,

@@ -41,7 +41,7 @@ impl Marks<'_> {
     pub fn is_marked(&self, k: usize) -> bool
         ensures { result ≡ is_marked self.now.qubits self.now.scratch.now k }
     {
-        k < self.qubits && k < self.scratch.len() && self.scratch[k] != 0
+        k < self.qubits && self.scratch.get(k).is_some_and(|byte| *byte != 0)
     }
 
     /// Marks a qubit; a number that is none of the qubits changes nothing.
@@ -50,6 +50,7 @@ impl Marks<'_> {
         ensures size { self.new.qubits ≡ self.old.qubits }
         ensures lender { self.new.scratch.ghost_name ≡ self.old.scratch.ghost_name }
     {
+        // Kept: through `get_mut(k)` the goal `returns-in-Some-clause-bytes` stays open, since nothing ties what is written there to the bytes behind the guard.
         if k < self.qubits && k < self.scratch.len() {
             self.scratch[k] = 1;
         }

@@ -62,6 +62,7 @@ fn count_one(q: usize, counts: &mut Vec<usize>) -> Result<(), AllocError>
 }
 
 /// Rows that grow in place.
+// Kept: places end to end with a span for each column, as in `Rows`, which they become as they are.
 #[derive(Drop)]
 struct Columns {
     spans: Vec<Span>,

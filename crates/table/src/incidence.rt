@@ -24,6 +24,7 @@ impl Incidence {
     {
         let count = code.checks();
         let mut rows = Rows::new(heap);
+        // Kept: by number, for the number is what the code is asked by.
         for k in 0..count {
             rows.push_row_of(code, Row::Check(k))?;
         }

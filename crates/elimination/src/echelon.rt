@@ -21,8 +21,8 @@ const CELLS: usize = MOST * STRIDE;
 #[derive(Drop)]
 pub(crate) struct Echelon<T> {
     pub(crate) width: usize,
-    // Kept: rows end to end in memory for the most columns, since no call but `new` may want memory. A `Vec` of as many rows of as many places as are
-    // used would be refilled at each `begin`, place by place with `push_reserved`, and have facts on the length and the room of each row where it has one.
+    // Kept: rows end to end in memory for the most columns, since no call but `new` may want memory. A `Vec` of rows, each as long as it is used, would
+    // be 256 blocks, each cleared and resized in `begin` as above, with facts on the length and the room of each, where there is one fact.
     /// The rows, end to end.
     cells: Vec<T>,
     ghost few: { width ≤ MOST },

@@ -19,8 +19,9 @@ use echelon::{Echelon, MOST, STRIDE};
 pub struct Elimination<T> {
     echelon: Echelon<T>,
     contradicts: bool,
-    // Kept: both are as long as the most unknowns ask for, and the first places of them are used, since no call but `new` may want memory. A list as
-    // long as it is used would be refilled at each `begin` by a loop of `push_reserved`, and have two facts, on length and on room, where it has one.
+    // Kept: both are as long as the most unknowns ask for, and the first places of them are used, since no call but `new` may want memory. Lists as
+    // long as they are used would be made in full and cut in `new`, cleared and resized in `begin`, with an arm for want of memory that cannot
+    // come, and have two facts each, on length and on room, where each has one.
     /// The check that is being written, in the order of the table's rows.
     row: Vec<T>,
     /// The least solution, once solved.

@@ -41,10 +41,10 @@ passes : (b c : Bool) (e : Refusal) (r o : Option Refusal) → c ≡ b → false
 passes b c e r o h l k = k ∙ sym (cond-false b (Some e) o (sym h ∙ sym l))
 
 module _ (checks generators : List (List ℕ)) (sides : List ℕ) where
-  abbrev limits_told : Bool
+  abbrev pub limits_told : Bool
   limits_told = wrong_sizes (length checks) (length generators) (length sides) || list_any too_long (checks ++ generators) || list_any (λ n. is_err (side_numbered n)) sides
 
-  limits_are : limits_told ≡ outside_limits checks generators sides
+  pub limits_are : limits_told ≡ outside_limits checks generators sides
   unfolding outside_limits
   limits_are = λ i. wrong_sizes (length checks) (length generators) (length sides) || both_are too_long checks generators i || unsided_are sides i
 
@@ -72,25 +72,25 @@ module _ (checks generators : List (List ℕ)) (sides : List ℕ) where
       ∙ any_is (shares_odd_with generators) checks
       ∙ law_fails_lem (length sides) checks generators (names sides checks a.0 b.0) (names sides generators a.1 b.1)
 
-  pub fault_limits : true ≡ limits_told → Some OutsideLimits ≡ listed_fault checks generators sides
+  pub fault_limits : true ≡ outside_limits checks generators sides → Some OutsideLimits ≡ listed_fault checks generators sides
   unfolding listed_fault
-  fault_limits h = stops _ _ _ _ limits_are h
+  fault_limits h = stops _ _ _ _ refl h
 
-  module _ (inside : false ≡ limits_told) where
+  module _ (inside : false ≡ outside_limits checks generators sides) where
     pub fault_large : true ≡ low_told → Some QubitTooLarge ≡ listed_fault checks generators sides
     unfolding listed_fault
-    fault_large h = passes _ _ _ _ _ limits_are inside (stops _ _ _ _ low_are h)
+    fault_large h = passes _ _ _ _ _ refl inside (stops _ _ _ _ low_are h)
 
     module _ (low : false ≡ low_told) where
       pub fault_twice : true ≡ once_told → Some NotRising ≡ listed_fault checks generators sides
       unfolding listed_fault
-      fault_twice h = passes _ _ _ _ _ limits_are inside (passes _ _ _ _ _ low_are low (stops _ _ _ _ once_are h))
+      fault_twice h = passes _ _ _ _ _ refl inside (passes _ _ _ _ _ low_are low (stops _ _ _ _ once_are h))
 
       module _ (once : false ≡ once_told) where
         pub fault_law : true ≡ law_told → Some LawFails ≡ listed_fault checks generators sides
         unfolding listed_fault
-        fault_law h = passes _ _ _ _ _ limits_are inside (passes _ _ _ _ _ low_are low (passes _ _ _ _ _ once_are once (stops _ _ _ _ (law_are low once) h)))
+        fault_law h = passes _ _ _ _ _ refl inside (passes _ _ _ _ _ low_are low (passes _ _ _ _ _ once_are once (stops _ _ _ _ (law_are low once) h)))
 
         pub fault_none : false ≡ law_told → None ≡ listed_fault checks generators sides
         unfolding listed_fault
-        fault_none h = passes _ _ _ _ _ limits_are inside (passes _ _ _ _ _ low_are low (passes _ _ _ _ _ once_are once (passes _ _ _ _ _ (law_are low once) h refl)))
+        fault_none h = passes _ _ _ _ _ refl inside (passes _ _ _ _ _ low_are low (passes _ _ _ _ _ once_are once (passes _ _ _ _ _ (law_are low once) h refl)))

@@ -1,11 +1,11 @@
 //! The faults of listed tables.
-ghost use Rattle.std.specs.Prelude.{◌≡◌, ℕ, Bool, List, ◌||◌, ◌++◌, length, is_err};
+ghost use Rattle.std.specs.Prelude.{◌≡◌, ℕ, Bool, List, ◌++◌, length, is_err};
 ghost use Rattle.std.specs.List.{list_any};
 ghost use Rattle.std.specs.Fn.{FnReturnsAt};
 ghost use Rattle.terms.specs.Answering.{checked};
 ghost use Rattle.terms.specs.Rows.{side_numbered};
 ghost use Rattle.sets.specs.Sets.{repeats};
-ghost use Rattle.listed.specs.Fault.{too_long, too_large, wrong_sizes, listed_fault};
+ghost use Rattle.listed.specs.Fault.{too_large, outside_limits, listed_fault};
 ghost use Rattle.listed.specs.Shares.{shares_odd};
 
 use rows::Rows;
@@ -43,7 +43,7 @@ impl<'a> Tables<'a> {
 
     /// Whether a size or a side is outside its limits.
     fn outside_limits(&self) -> bool
-        ensures { result ≡ (wrong_sizes (length self.now.checks.now) (length self.now.generators.now) (length self.now.sides.now) || list_any too_long (self.now.checks.now ++ self.now.generators.now) || list_any (λ n. is_err (side_numbered n)) self.now.sides.now) }
+        ensures { result ≡ outside_limits self.now.checks.now self.now.generators.now self.now.sides.now }
     {
         self.sides.is_empty()
             || self.sides.len() > 2048
@@ -113,7 +113,8 @@ fn too_large(row: &[u16], qubits: usize) -> bool
 fn repeats(row: &[u16]) -> bool
     ensures { result ≡ repeats row.now }
 {
-    // Kept: with `is_some_and` the closure would be in the cycle of calls, and need a clause and a measure of its own.
+    // Kept: a chain over `enumerate` counts places by hand again (`row[k + 1..]`), and its goal `returns` stays open by `search`; through
+    // `is_some_and` the closure would be in the cycle of calls, and need a clause and a measure of its own.
     match row.split_first() {
         Some((q, later)) => later.contains(q) || repeats(later),
         None => false,

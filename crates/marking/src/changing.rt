@@ -40,6 +40,7 @@ fn change_each<T: Copy, F: Fn(T) -> T>(places: &[u16], list: &mut [T], change: F
 {
     for k in places {
         let k = usize::from(*k);
+        // Kept: by index, since nothing is known of a slice after `get_mut`.
         if k < list.len() {
             list[k] = change(list[k]);
         }

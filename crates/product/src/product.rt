@@ -11,7 +11,7 @@ mod make;
 pub struct Product {
     rows: u16,
     columns: u16,
-    // Kept: a rule of the project has the seed by its rows and by its columns, each as words.
+    // Kept: the seed by its rows and by its columns, each as words (docs/architecture.md, program forms).
     row_words: [u32; 32],
     column_words: [u32; 32],
     ghost some_rows: { 1 ≤ rows },

@@ -17,7 +17,7 @@ pub struct Span {
 }
 
 /// Rows of numbers. All rows share one block of memory.
-// Kept: tried with a `Vec` for each row, in plain Rust: the rows and columns of a table took 479 microseconds, more than a whole table took here (379, now 203).
+// Kept: tried in plain Rust, in one run: the rows and columns of a table take 479 microseconds with a `Vec` for each row, and 68 end to end.
 #[derive(Drop)]
 pub struct Rows {
     places: Vec<u16>,

@@ -4,7 +4,7 @@
 ghost use Rattle.std.specs.Prelude.{◌≡◌, ◌+◌, ◌&&◌, [], ◌∷◌, ◌++◌, length, take, is_some, is_ok, if◌then◌else◌, nat_le, nat_lt, slice_set};
 ghost use Rattle.std.specs.Option.{option_to_list};
 
-// Kept: a rule of the project has the shelf and the cluster walk share one text; each keeps the slots and the length as fields of its own and lends them.
+// Kept: slots and a length, since one text is to serve a list that a trial owns and scratch memory that a caller lends (docs/DECISIONS.md).
 /// Puts an element on top. Where there is no slot left it hands the element back, and nothing changes. Slots beyond the new top keep what they have.
 pub fn push<T: Copy>(slots: &mut [T], len: &mut usize, x: T) -> Result<(), T>
     ensures test { result ≡ (if nat_lt len.old (length slots.old) then Ok tt else Err x) }

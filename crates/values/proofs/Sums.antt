@@ -1,8 +1,9 @@
 -- Rows written place by place, and a multiple added, over any field.
 use Rattle.std.proofs.Common.{◌≡◌, ℕ, zero, suc, ◌+◌, ◌<◌, ◌≤◌, List, [], ◌∷◌, ◌++◌, length, get_or, take, drop, set, sym, ap, ◌∙◌, ap₂, append_assoc, append-nil, refl, arith}
+use Rattle.std.specs.List.{fold, zip}
 use Rattle.std.proofs.lemmas.List.{take_all, drop_all, drop_more, take_more, set_at, get_or_at, length-take-le}
 use Rattle.linear.specs.Field.{Field}
-use Rattle.linear.specs.Basis.{mix}
+use Rattle.linear.specs.Basis.{mix, dot}
 
 module _ {X : Type 0} where
   -- the first i places are written, and the others are as they were
@@ -49,3 +50,17 @@ module _ {F : Type 0} (K : Field F) where
       let e' : length r ≡ length o = omega arith in
       let h' : i < length r = omega arith in
       mix_at k o r i x y d e' h' p q
+
+module _ {F : Type 0} (K : Field F) where
+  open K use {add, add_assoc, add_comm, add_zer, mul, zer}
+
+  dot_is_fold : (s : F) (a x : List F) → length a ≡ length x → add s (dot K a x) ≡ fold (λ t p. add t (mul p.0 p.1)) s (zip a x)
+  dot_is_fold s [] [] e = add_zer s
+  dot_is_fold s [] (q ∷ x) e = absurd (omega arith)
+  dot_is_fold s (p ∷ a) [] e = absurd (omega arith)
+  dot_is_fold s (p ∷ a) (q ∷ x) e =
+      let e' : length a ≡ length x = omega arith in
+      sym (add_assoc s (mul p q) (dot K a x)) ∙ dot_is_fold (add s (mul p q)) a x e'
+
+  pub fold_is_dot : (s : F) (a x : List F) → length a ≡ length x → s ≡ zer → fold (λ t p. add t (mul p.0 p.1)) s (zip a x) ≡ dot K a x
+  fold_is_dot s a x e z = sym (dot_is_fold s a x e) ∙ ap (λ t. add t (dot K a x)) z ∙ add_comm zer (dot K a x) ∙ add_zer (dot K a x)

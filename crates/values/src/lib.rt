@@ -121,10 +121,7 @@ pub fn dot<T: Value>(a: &[T], x: &[T]) -> T
     if a.len() != x.len() {
         return T::zero();
     }
-    let mut sum = T::zero();
-    // Kept: as `a.iter().zip(x).fold(T::zero(), ..)` the goal `returns-clause-sum` stays open, by `search (rules, chains)` too.
-    for (p, q) in a.iter().zip(x) {
-        sum = sum.plus(p.times(*q));
-    }
-    sum
+    a.iter()
+        .zip(x)
+        .fold(T::zero(), |sum, (p, q)| sum.plus(p.times(*q)))
 }

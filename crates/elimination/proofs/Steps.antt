@@ -5,7 +5,7 @@ use borrow.Rule.Slice.PartMut.{put_mid}
 use Rattle.std.proofs.lemmas.List.{get_or-set_same, drop-set-lt, drop_all, drop-drop, take_all, take_at, drop_at, take-append-le, drop-append-le, take-take, drop-take, length-take-le, get_or_read}
 use Rattle.linear.specs.Field.{Field}
 use Rattle.linear.specs.Basis.{Basis, grown, under, ended, mix, insert}
-use Rattle.elimination.specs.Table.{rows_of, is_free, column, stack, basis_of, wrap, Passed, Reduced}
+use Rattle.elimination.specs.Table.{rows_of, is_free, column, stack, basis_of, wrap, Passed, Reduced, AddedFrom}
 use Rattle.elimination.specs.Inserted.{Inserted}
 use Rattle.elimination.specs.declared.echelon.Added.TheVariants.{Grown, Known, Clash}
 use Rattle.elimination.proofs.Stack.{wrap_known, wrap_clash, step_skip, step_add, step_new, stack_at, new_row, length_rows, row_at}
@@ -57,6 +57,50 @@ module _ {X : Type 0} where
 
 module _ {F : Type 0} (K : Field F) where
   open K use {zer, add, mul, neg, inv, is}
+
+  drop_mix : (k : F) (n : ℕ) (o r : List F) → length r ≡ length o → drop n (mix K k o r) ≡ mix K k (drop n o) (drop n r)
+  drop_mix k zero o r e = refl
+  drop_mix k (suc n) [] [] e = refl
+  drop_mix k (suc n) [] (x ∷ r) e = absurd (omega arith)
+  drop_mix k (suc n) (y ∷ o) [] e = absurd (omega arith)
+  drop_mix k (suc n) (y ∷ o) (x ∷ r) e = let e' : length r ≡ length o = omega arith in drop_mix k n o r e'
+
+  first_mix : (k : F) (o r : List F) → length r ≡ length o → 0 < length r → get_or (mix K k o r) 0 zer ≡ add (get_or r 0 zer) (mul k (get_or o 0 zer))
+  first_mix k o [] e h = absurd (omega arith)
+  first_mix k [] (x ∷ r) e h = absurd (omega arith)
+  first_mix k (y ∷ o) (x ∷ r) e h = refl
+
+  -- k times the row R is added to x from place a on, which is r but for its right side
+  module _ (j : ℕ) (k : F) (R r x : List F) (a m : ℕ) (h : a ≤ j + 1) (lo : j + 1 < length x) (n : length x ≡ length R) (mx : m ≡ length x - a) (S : List F) (se : S ≡ mix K k (drop a R) (drop a x)) where
+    behind_from : drop (suc (suc j)) x ≡ drop (suc (suc j)) r → drop (suc (suc j)) (put_mid a m x S) ≡ mix K k (drop (suc (suc j)) R) (drop (suc (suc j)) r)
+    behind_from b =
+        let d : ℕ = suc (suc j) - a in
+        let de : a + d ≡ suc (suc j) = omega arith in
+        let full : a + m ≡ length x = omega arith in
+        let long : length (drop a x) ≡ length (drop a R) = omega (arith, length-drop a x, length-drop a R) in
+        ap (λ i. drop i (put_mid a m x S)) (sym de) ∙ sym (drop-drop d a (put_mid a m x S))
+        ∙ ap (drop d) (tail_put a m x S full ∙ se)
+        ∙ drop_mix k d (drop a R) (drop a x) long
+        ∙ ap₂ (λ o t. mix K k o t) (drop-drop d a R ∙ ap (λ i. drop i R) de) (drop-drop d a x ∙ ap (λ i. drop i x) de ∙ b)
+
+    pub added_later : 0 < a → (v : F) → x ≡ set r 0 v → v ≡ add (get_or r 0 zer) (mul k (get_or R 0 zer)) → AddedFrom K j k R r (put_mid a m x S)
+    added_later p v xe ve =
+        let l : 0 < length x = omega arith in
+        let r-long : 0 < length r = omega (arith, ap length xe, length-set r 0 v) in
+        record {
+          right = first_put a m x S zer p l ∙ ap (λ t. get_or t 0 zer) xe ∙ get_or-set_same r 0 v zer r-long ∙ ve;
+          behind = behind_from (ap (drop (suc (suc j))) xe ∙ drop-set-lt (suc (suc j)) r 0 v (omega arith));
+        }
+
+    pub added_at_once : a ≡ 0 → x ≡ r → AddedFrom K j k R r (put_mid a m x S)
+    added_at_once z xe =
+        let whole : S ≡ mix K k R x = se ∙ ap (λ i. mix K k (drop i R) (drop i x)) z in
+        let l : 0 < length x = omega arith in
+        let all : length x ≤ m = omega arith in
+        record {
+          right = ap (λ i. get_or (put_mid i m x S) 0 zer) z ∙ ap (λ t. get_or (S ++ t) 0 zer) (drop_all m x all) ∙ ap (λ t. get_or t 0 zer) (append-nil S ∙ whole) ∙ first_mix k R x n l ∙ ap (λ t. add (get_or t 0 zer) (mul k (get_or R 0 zer))) xe;
+          behind = behind_from (ap (drop (suc (suc j))) xe);
+        }
 
   -- the row r₀ came as far as column j, and is r there
   pub record At (w : ℕ) (T r₀ : List F) (j : ℕ) (r : List F) : Type 0 where
@@ -117,30 +161,12 @@ module _ {F : Type 0} (K : Field F) where
       pub at_skip : (c : F) → c ≡ get_or r (j + 1) c → is c zer ≡ true → At w T r₀ j r → At w T r₀ (j + 1) r
       at_skip c p f s = onward r s (step_skip K j R r C (n ∙ sym R-long) (ap (λ q. is q zer) (sym (coef c p)) ∙ f))
 
-      -- v is written first, and S from place j + 2 on
-      pub at_add : (L : List F) (c k x y v : F) (m p : ℕ) (O P S r' : List F) → L ≡ R
-          → c ≡ get_or r (j + 1) c → is_free K w T j ≡ false
-          → k ≡ neg c → x ≡ get_or r 0 x → y ≡ get_or L 0 y → v ≡ add x (mul k y)
-          → m ≡ w - suc j → p ≡ w - suc j → O ≡ take p (drop (j + 2) L) → P ≡ take m (drop (j + 2) (set r 0 v)) → (length P ≡ length O → S ≡ mix K k O P)
-          → r' ≡ put_mid (j + 2) m (set r 0 v) S → At w T r₀ j r → At w T r₀ (j + 1) r'
-      at_add L c k x y v m p O P S r' Le ce dz ke xe ye ve me pe oe Pe se re s =
-          let ra : 0 < length r = omega arith in
-          let rb : 0 < length (set r 0 v) = omega (arith, length-set r 0 v) in
-          let a2 : 0 < j + 2 = omega arith in
-          let jj : j + 2 ≡ suc (suc j) = omega arith in
-          let full : (j + 2) + m ≡ length (set r 0 v) = omega (arith, length-set r 0 v) in
-          let short : length (drop (j + 2) (set r 0 v)) ≤ m = omega (arith, length-drop (j + 2) (set r 0 v)) in
-          let P-is : P ≡ drop (suc (suc j)) r = Pe ∙ take_all m (drop (j + 2) (set r 0 v)) short ∙ drop-set-lt (j + 2) r 0 v a2 ∙ ap (λ i. drop i r) jj in
-          let O-is : O ≡ drop (suc (suc j)) R = oe ∙ R-tail L Le p pe in
-          let lens : length P ≡ length O = ap length P-is ∙ length-drop (suc (suc j)) r ∙ ap (λ i. i - suc (suc j)) (n ∙ sym R-long) ∙ sym (ap length O-is ∙ length-drop (suc (suc j)) R) in
+      pub at_add : (c k : F) (r' : List F) → c ≡ get_or r (j + 1) c → is_free K w T j ≡ false → k ≡ neg c → AddedFrom K j k R r r' → At w T r₀ j r → At w T r₀ (j + 1) r'
+      at_add c k r' ce dz ke a s =
           let k-is : k ≡ neg (get_or r (suc j) zer) = ke ∙ ap neg (coef c ce) in
-          let first : get_or r' 0 zer ≡ add (get_or r 0 zer) (mul (neg (get_or r (suc j) zer)) (get_or R 0 zer)) =
-          ap (λ t. get_or t 0 zer) re ∙ first_put (j + 2) m (set r 0 v) S zer a2 rb ∙ get_or-set_same r 0 v zer ra ∙ ve
-          ∙ ap₂ (λ u t. add u t) (get_or_read r 0 x ra xe zer) (ap₂ (λ u t. mul u t) k-is (right_side L Le y ye)) in
-          let tail : drop (suc (suc j)) r' ≡ mix K (neg (get_or r (suc j) zer)) (drop (suc (suc j)) R) (drop (suc (suc j)) r) =
-          ap₂ (λ i t. drop i t) (sym jj) re ∙ tail_put (j + 2) m (set r 0 v) S full ∙ se lens
-          ∙ ap (λ u. mix K u O P) k-is ∙ ap₂ (λ o t. mix K (neg (get_or r (suc j) zer)) o t) O-is P-is in
-          onward r' s (step_add K j R r r' C dz first tail)
+          onward r' s (step_add K j R r r' C dz
+          (a.right ∙ ap (λ u. add (get_or r 0 zer) (mul u (get_or R 0 zer))) k-is)
+          (a.behind ∙ ap (λ u. mix K u (drop (suc (suc j)) R) (drop (suc (suc j)) r)) k-is))
 
       pub stopped : (c : F) → c ≡ get_or r (j + 1) c → is c zer ≡ false → is_free K w T j ≡ true → At w T r₀ j r → Reduced K w T r₀ j r
       stopped c ce cz dz s = record { within = omega arith; passed = s.passed; stops = λ _. (ap (λ q. is q zer) (sym (coef c ce)) ∙ cz, dz) }

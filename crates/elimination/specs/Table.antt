@@ -2,7 +2,7 @@
 -- The row of column j is in use if its own coefficient at j is not zero; it is one then, and what stands before it is not read.
 use Rattle.std.specs.Prelude.{◌≡◌, ℕ, zero, suc, ◌<◌, ◌≤◌, Bool, true, false, List, [], ◌∷◌, take, drop, slice_index_or}
 use Rattle.linear.specs.Field.{Field}
-use Rattle.linear.specs.Basis.{Basis, done, free, lead, Insertion, under, insert}
+use Rattle.linear.specs.Basis.{Basis, done, free, lead, Insertion, mix, under, insert}
 
 -- the first n rows of s elements each
 abbrev pub rows_of : {X : Type 0} → ℕ → ℕ → List X → List (List X)
@@ -14,7 +14,7 @@ abbrev pub row_of : {X : Type 0} → ℕ → List X → ℕ → List X
 row_of w t j = slice_index_or (rows_of (suc w) w t) j []
 
 module _ {F : Type 0} (K : Field F) where
-  open K use {zer, is}
+  open K use {zer, add, mul, is}
 
   abbrev pub column_if : Bool → ℕ → List F → Basis F → Basis F
   column_if true j r B = free B
@@ -36,6 +36,11 @@ module _ {F : Type 0} (K : Field F) where
   -- whether column j has no row
   abbrev pub is_free : ℕ → List F → ℕ → Bool
   is_free w t j = is (slice_index_or (row_of w t j) (suc j) zer) zer
+
+  -- k times the row R was added to r, which is r' then, on the right side and behind column j
+  pub record AddedFrom (j : ℕ) (k : F) (R r r' : List F) : Type 0 where
+    pub right : slice_index_or r' 0 zer ≡ add (slice_index_or r 0 zer) (mul k (slice_index_or R 0 zer))
+    pub behind : drop (suc (suc j)) r' ≡ mix K k (drop (suc (suc j)) R) (drop (suc (suc j)) r)
 
   -- the columns before j, put back on an insertion
   abbrev pub wrap : List (List F) → ℕ → Insertion F → Insertion F

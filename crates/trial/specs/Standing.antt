@@ -1,0 +1,39 @@
+-- A trial as its callers see it: its table, and its state as the rules have it.
+use Rattle.std.specs.Prelude.{◌≡◌, ℕ, ◌+◌, ◌≤◌, Bool, List, [], length}
+use Rattle.sets.specs.Sets.{size}
+use Rattle.meaning.specs.Meaning.{qubits}
+use Rattle.rules.specs.declared.answers.Status.{Status}
+use Rattle.rules.specs.States.{State}
+use Rattle.table.specs.OfTable.{meaning_of}
+use Rattle.table.specs.declared.Table.{Table}
+use Rattle.upkeep.specs.Statuses.{erased_of, shelved_of}
+
+pub record Standing : Type 0 where
+  pub table : Table
+  pub state : State
+
+-- there is a mark for each qubit and each check of the code, and what was counted and is left is no more than the qubits
+pub record Sized (t : Standing) : Type 0 where
+  pub erased : length t.state.erased ≡ qubits (meaning_of t.table)
+  pub shelved : length t.state.shelved ≡ qubits (meaning_of t.table)
+  pub flipped : length t.state.flipped ≡ qubits (meaning_of t.table)
+  pub closed : length t.state.closed ≡ length (meaning_of t.table).checks
+  pub odds : length t.state.odds ≡ length (meaning_of t.table).checks
+  pub few : t.state.peeled + t.state.pruned + t.state.chosen + size t.state.erased + size t.state.shelved ≤ qubits (meaning_of t.table)
+
+-- the state that lists of statuses and marks, the void mark, the slip's number and the counts make
+abbrev pub state_of : List Status → (flipped closed odd : List Bool) → (void : Bool) → (number peeled pruned chosen : ℕ) → State
+state_of status flipped closed odd void number peeled pruned chosen =
+    record {
+      erased = erased_of status;
+      shelved = shelved_of status;
+      flipped = flipped;
+      closed = closed;
+      odds = odd;
+      shelf = [];
+      void = void;
+      number = number;
+      peeled = peeled;
+      pruned = pruned;
+      chosen = chosen;
+    }

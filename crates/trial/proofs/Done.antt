@@ -27,8 +27,8 @@ code t = meaning_of t.table
 abbrev pub checks_at : Standing → ℕ → List ℕ
 checks_at t q = elements (map (λ s. has s q) (code t).checks)
 
-pub long : (t : Standing) → Sized t → Long (code t) t.state
-long t sized = record { erased = sized.erased; shelved = sized.shelved; flipped = sized.flipped; closed = sized.closed; odds = sized.odds }
+long : (t : Standing) → Long (code t) t.state
+long t = record { erased = t.sized.erased; shelved = t.sized.shelved; flipped = t.sized.flipped; closed = t.sized.closed; odds = t.sized.odds }
 
 -- no changes, where a test fails
 pub changed_if : {X : Type 0} (d : X) (f : X → X) (b : Bool) (l : List ℕ) (xs : List X) → changed d f (cond b l []) xs ≡ cond b (changed d f l xs) xs
@@ -43,7 +43,7 @@ turned_if m q false true e = ap (set m q) e ∙ set-get_or m q false
 turned_if m q false false e = ap (set m q) e ∙ set-get_or m q false
 
 -- the trial s is opened at t, and the qubit q is done
-module _ (t : Inside) (s : Standing) (is : standing_of t ≡ s) (sized : Sized (standing_of t)) (q : ℕ) (low : q < qubits (code s)) (flip : Bool) (e : Erasures) (flipped odd : List Bool)
+module _ (t : Inside) (s : Standing) (is : standing_of t ≡ s) (q : ℕ) (low : q < qubits (code s)) (flip : Bool) (e : Erasures) (flipped odd : List Bool)
     (same : e.table.now ≡ t.erasures.table.now) (done : vec_items e.status ≡ set (vec_items t.erasures.status) q Done)
     (is-flipped : flipped ≡ cond flip (set (vec_items t.flipped) q (not (has (vec_items t.flipped) q))) (vec_items t.flipped))
     (is_odd : odd ≡ cond flip (turned (checks_at (standing_of t) q) (vec_items t.odd)) (vec_items t.odd)) where
@@ -73,27 +73,27 @@ module _ (t : Inside) (s : Standing) (is : standing_of t ≡ s) (sized : Sized (
         pruned = t.pruned;
         chosen = t.chosen;
       } in
-      set_one ∙ sym (finish_one M (standing_of t).state (long (standing_of t) sized) q low' (checks_at (standing_of t) q) (holders_once M.checks q) (λ k _. holders_named M.checks q k) flip)
+      set_one ∙ sym (finish_one M (standing_of t).state (long (standing_of t)) q low' (checks_at (standing_of t) q) (holders_once M.checks q) (λ k _. holders_named M.checks q k) flip)
 
   pub is_finished : new ≡ finished s
   is_finished = step ∙ ap finished is
 
-  pub still_sized : Sized (record { table = e.table.now; state = new })
+  pub still_sized : Sized (meaning_of e.table.now) new
   still_sized =
       let fit = e.fit ∙ ap (λ (x : Table). qubits (meaning_of x)) same in
       let k = only (qubits (code (standing_of t))) q in
-      let all : Sized (record { table = t.erasures.table.now; state = new }) =
+      let all : Sized (meaning_of t.erasures.table.now) new =
       record {
         erased = length-map (vec_items e.status) is_erased ∙ fit;
         shelved = length-map (vec_items e.status) is_shelved ∙ fit;
-        flipped = ap length is-flipped ∙ length_if flip (vec_items t.flipped) _ (length-set (vec_items t.flipped) q _) ∙ sized.flipped;
-        closed = sized.closed;
-        odds = ap length is_odd ∙ length_if flip (vec_items t.odd) _ (length_changed _ not (checks_at (standing_of t) q) (vec_items t.odd)) ∙ sized.odds;
-        few = omega (arith, ap total step, sized.few, size_less (standing_of t).state.erased k, size_less (standing_of t).state.shelved k);
+        flipped = ap length is-flipped ∙ length_if flip (vec_items t.flipped) _ (length-set (vec_items t.flipped) q _) ∙ t.sized.flipped;
+        closed = t.sized.closed;
+        odds = ap length is_odd ∙ length_if flip (vec_items t.odd) _ (length_changed _ not (checks_at (standing_of t) q) (vec_items t.odd)) ∙ t.sized.odds;
+        few = omega (arith, ap total step, t.sized.few, size_less (standing_of t).state.erased k, size_less (standing_of t).state.shelved k);
       } in
-      subst (λ (x : Table). Sized (record { table = x; state = new })) (sym same) all
+      subst (λ (x : Table). Sized (meaning_of x) new) (sym same) all
 
 -- an erased qubit that is done leaves room to count it
-pub room : (t u : Standing) (q : ℕ) (z : List Bool) → Sized t → q < qubits (code t) → has t.state.erased q ≡ true → u.state ≡ finish (code t) (only (qubits (code t)) q) z t.state → u.table ≡ t.table
+pub room : (t u : Standing) (q : ℕ) (z : List Bool) → q < qubits (code t) → has t.state.erased q ≡ true → u.state ≡ finish (code t) (only (qubits (code t)) q) z t.state → u.table ≡ t.table
     → total u.state + 1 ≤ qubits (code u)
-room t u q z sized low lost e same = omega (arith, ap total e, room_for_one (code t) t.state q z low lost, sized.few, ap (λ x. qubits (meaning_of x)) same)
+room t u q z low lost e same = omega (arith, ap total e, room_for_one (code t) t.state q z low lost, t.sized.few, ap (λ x. qubits (meaning_of x)) same)

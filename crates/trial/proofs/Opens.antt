@@ -1,5 +1,5 @@
 -- A trial as it is opened.
-use Rattle.std.proofs.Common.{◌≡◌, ℕ, ◌+◌, ◌≤◌, Bool, true, false, List, [], length, replicate, vec_items, Some, None, Ok, Err, Result, sym, refl, ap, ◌∙◌, subst, arith}
+use Rattle.std.proofs.Common.{◌≡◌, ℕ, ◌+◌, ◌≤◌, Bool, true, false, List, length, replicate, vec_items, Some, None, Ok, Err, Result, sym, refl, ap, ◌∙◌, subst, arith}
 use lib.ListN.{length-replicate}
 use Rattle.std.proofs.lemmas.List.{length-map}
 use Rattle.terms.specs.declared.refusal.Refusal.{Refusal}
@@ -22,7 +22,7 @@ use Rattle.upkeep.proofs.Counts.{size_nothing}
 use Rattle.upkeep.proofs.Faults.{fault_some, fault_none}
 use Rattle.upkeep.proofs.Opened.{shelved_changed, shelved_none, is_opening}
 use Rattle.trial.specs.Standing.{Sized, state_of}
-use Rattle.trial.specs.Opening.{Opens, BegunOn}
+use Rattle.trial.specs.Opening.{Opens}
 use Rattle.trial.specs.declared.trial.erasing.Erasures.{Erasures}
 
 -- the statuses fit, and there is room to count each erased qubit
@@ -66,44 +66,31 @@ module _ (M : Meaning) (t : rules.Tally) (lost odds : List ℕ) where
       λ i. record { trial = a i; slip = b i }
 
 -- a trial as it is begun
-module _ (t : Table) (lost odds : List ℕ) (number : ℕ) (e : Erasures) (flipped closed odd : List Bool) (same : e.table.now ≡ t) where
-  abbrev n : ℕ
-  n = qubits (meaning_of t)
-
-  abbrev m : ℕ
-  m = length (meaning_of t).checks
-
+module _ (t : Table) (lost odds : List ℕ) (number : ℕ) (e : Erasures) (flipped closed odd : List Bool) (same : e.table.now ≡ t)
+    (is_lost : vec_items e.status ≡ changed Done (λ _. Erased) lost (replicate (qubits (meaning_of t)) Done))
+    (is-flipped : flipped ≡ replicate (qubits (meaning_of t)) false)
+    (is-closed : closed ≡ replicate (length (meaning_of t).checks) false)
+    (is_odd : odd ≡ marked odds (replicate (length (meaning_of t).checks) false)) where
   abbrev state : State
   state = state_of (vec_items e.status) flipped closed odd false number 0 0 0
 
-  pub begun : vec_items e.status ≡ changed Done (λ _. Erased) lost (replicate n Done) → flipped ≡ replicate n false → closed ≡ replicate m false → odd ≡ marked odds (replicate m false)
-      → some_past n lost ≡ false → some_past m odds ≡ false → BegunOn t lost odds number (record { table = e.table.now; state = state })
-  begun es ef ec eo low-lost low-odds =
-      let begins : ◌≡◌ {A = State} _ _ = λ i.
+  pub begins : some_past (qubits (meaning_of t)) lost ≡ false → some_past (length (meaning_of t).checks) odds ≡ false → state ≡ opening (meaning_of t) (report (meaning_of t) lost odds) number
+  begins low-lost low-odds =
+      let none : ◌≡◌ {A = State} _ _ = λ i. state_of (vec_items e.status) (is-flipped i) (is-closed i) (is_odd i) false number 0 0 0 in
+      none ∙ is_opening (meaning_of t) lost odds number low-lost low-odds (vec_items e.status) is_lost
+
+  pub is_sized : Sized (meaning_of e.table.now) state
+  is_sized =
+      let n = qubits (meaning_of t) in
+      let m = length (meaning_of t).checks in
+      let fit = statuses_fit n lost (vec_items e.status) is_lost in
+      let all : Sized (meaning_of t) state =
       record {
-        erased = erased_of (vec_items e.status);
-        shelved = shelved_of (vec_items e.status);
-        flipped = ef i;
-        closed = ec i;
-        odds = eo i;
-        shelf = [];
-        void = false;
-        number = number;
-        peeled = 0;
-        pruned = 0;
-        chosen = 0;
+        erased = length-map (vec_items e.status) is_erased ∙ fit;
+        shelved = length-map (vec_items e.status) is_shelved ∙ fit;
+        flipped = ap length is-flipped ∙ length-replicate n false;
+        closed = ap length is-closed ∙ length-replicate m false;
+        odds = ap length is_odd ∙ length_changed false (λ _. true) odds (replicate m false) ∙ length-replicate m false;
+        few = statuses_few n lost (vec_items e.status) is_lost;
       } in
-      let sized : Sized (record { table = t; state = state }) =
-      record {
-        erased = length-map (vec_items e.status) is_erased ∙ statuses_fit n lost (vec_items e.status) es;
-        shelved = length-map (vec_items e.status) is_shelved ∙ statuses_fit n lost (vec_items e.status) es;
-        flipped = ap length ef ∙ length-replicate n false;
-        closed = ap length ec ∙ length-replicate m false;
-        odds = ap length eo ∙ length_changed false (λ _. true) odds (replicate m false) ∙ length-replicate m false;
-        few = statuses_few n lost (vec_items e.status) es;
-      } in
-      record {
-        on_table = same;
-        sized = subst (λ (x : Table). Sized (record { table = x; state = state })) (sym same) sized;
-        begins = begins ∙ is_opening (meaning_of t) lost odds number low-lost low-odds (vec_items e.status) es;
-      }
+      subst (λ (x : Table). Sized (meaning_of x) state) (sym same) all

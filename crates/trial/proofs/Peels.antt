@@ -19,10 +19,10 @@ use Rattle.upkeep.proofs.Faults.{fault_clear, fault_none}
 use Rattle.upkeep.proofs.Rows.{first_in_lem, none_in}
 use Rattle.upkeep.proofs.Finish.{with_counts, count_peeled}
 use Rattle.upkeep.proofs.Peeled.{peel_one}
-use Rattle.trial.specs.Standing.{Standing, Sized}
+use Rattle.trial.specs.Standing.{Standing}
 use Rattle.trial.proofs.Done.{code}
 
-module _ (t : Standing) (sized : Sized t) (slip k : ℕ) (fine : None ≡ fault (peel_bars (code t) t.state slip k)) where
+module _ (t : Standing) (slip k : ℕ) (fine : None ≡ fault (peel_bars (code t) t.state slip k)) where
   clear : Clear (peel_bars (code t) t.state slip k)
   clear = fault_clear (peel_bars (code t) t.state slip k) (sym fine)
 
@@ -50,12 +50,12 @@ module _ (t : Standing) (sized : Sized t) (slip k : ℕ) (fine : None ≡ fault 
     erased_is = (first_in_lem t.state.erased told q found).1
 
     pub is_qubit : q < qubits (code t)
-    is_qubit = omega (arith, has_below t.state.erased q erased_is, sized.erased)
+    is_qubit = omega (arith, has_below t.state.erased q erased_is, t.sized.erased)
 
     -- what is left by finishing the qubit and counting it is what a peel leaves
     pub peels : (u : State) (flip : Bool) → flip ≡ has t.state.odds k → u ≡ finish (code t) (only (qubits (code t)) q) (cond flip (only (qubits (code t)) q) (empty (qubits (code t)))) t.state
         → ◌≡◌ {A = Result ℕ Refusal × State} (Ok q, with_counts u (u.peeled + 1) u.pruned u.chosen) (peel (code t) t.state slip k)
     peels u flip odd e =
         ap (λ (s : State). (Ok q, s)) (count_peeled u ∙ ap (count 1 0 0) (e ∙ ap (λ f. finish (code t) (only (qubits (code t)) q) (cond f (only (qubits (code t)) q) (empty (qubits (code t)))) t.state) odd))
-        ∙ peel_one (code t) (table_sound t.table) t.state sized.erased k is_check one q (sym (named q) ∙ (first_in_lem t.state.erased told q found).0) erased_is
+        ∙ peel_one (code t) (table_sound t.table) t.state t.sized.erased k is_check one q (sym (named q) ∙ (first_in_lem t.state.erased told q found).0) erased_is
         ∙ sym (fault_none t.state _ (peel_bars (code t) t.state slip k) fine)

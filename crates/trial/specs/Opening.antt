@@ -7,7 +7,7 @@ use Rattle.rules.specs.States.{opening}
 use Rattle.rules.specs.Tallies as rules
 use Rattle.table.specs.OfTable.{meaning_of}
 use Rattle.table.specs.declared.Table.{Table}
-use Rattle.trial.specs.Standing.{Standing, Sized}
+use Rattle.trial.specs.Standing.{Standing}
 use Rattle.trial.specs.declared.trial.opening.Opened.{Opened}
 
 abbrev pub opened_of : Opened → rules.Opened
@@ -22,13 +22,12 @@ OpensAs (Err e) before after (Ok o) later = (e ≡ NoMemory) × (after ≡ befor
 abbrev pub Opens : Result Opened Refusal → rules.Tally → rules.Tally → Result rules.Opened Refusal × rules.Tally → Type 0
 Opens r before after rule = OpensAs r before after rule.0 rule.1
 
--- the trial that is opened is on the table, and has its size
+-- the trial that is opened is on the table
 abbrev pub OpenedOn : Table → Result Opened Refusal → Type 0
-OpenedOn t (Ok o) = (o.trial.table ≡ t) × Sized o.trial
+OpenedOn t (Ok o) = o.trial.table ≡ t
 OpenedOn t (Err e) = Unit {0}
 
 -- a trial as it is begun on a table, with its number
 pub record BegunOn (t : Table) (lost odds : List ℕ) (number : ℕ) (b : Standing) : Type 0 where
   pub on_table : b.table ≡ t
-  pub sized : Sized b
   pub begins : b.state ≡ opening (meaning_of t) (report (meaning_of t) lost odds) number

@@ -8,4 +8,5 @@ standing_of t =
     record {
       table = t.erasures.table.now;
       state = state_of (vec_items t.erasures.status) (vec_items t.flipped) (vec_items t.closed) (vec_items t.odd) t.void t.number t.peeled t.pruned t.chosen;
+      sized = t.sized;
     }

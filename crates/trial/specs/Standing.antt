@@ -1,25 +1,26 @@
 -- A trial as its callers see it: its table, and its state as the rules have it.
 use Rattle.std.specs.Prelude.{◌≡◌, ℕ, ◌+◌, ◌≤◌, Bool, List, [], length}
 use Rattle.sets.specs.Sets.{size}
-use Rattle.meaning.specs.Meaning.{qubits}
+use Rattle.meaning.specs.Meaning.{Meaning, qubits}
 use Rattle.rules.specs.declared.answers.Status.{Status}
 use Rattle.rules.specs.States.{State}
 use Rattle.table.specs.OfTable.{meaning_of}
 use Rattle.table.specs.declared.Table.{Table}
 use Rattle.upkeep.specs.Statuses.{erased_of, shelved_of}
 
+-- there is a mark for each qubit and each check of the code, and what was counted and is left is no more than the qubits
+pub record Sized (M : Meaning) (s : State) : Type 0 where
+  pub erased : length s.erased ≡ qubits M
+  pub shelved : length s.shelved ≡ qubits M
+  pub flipped : length s.flipped ≡ qubits M
+  pub closed : length s.closed ≡ length M.checks
+  pub odds : length s.odds ≡ length M.checks
+  pub few : s.peeled + s.pruned + s.chosen + size s.erased + size s.shelved ≤ qubits M
+
 pub record Standing : Type 0 where
   pub table : Table
   pub state : State
-
--- there is a mark for each qubit and each check of the code, and what was counted and is left is no more than the qubits
-pub record Sized (t : Standing) : Type 0 where
-  pub erased : length t.state.erased ≡ qubits (meaning_of t.table)
-  pub shelved : length t.state.shelved ≡ qubits (meaning_of t.table)
-  pub flipped : length t.state.flipped ≡ qubits (meaning_of t.table)
-  pub closed : length t.state.closed ≡ length (meaning_of t.table).checks
-  pub odds : length t.state.odds ≡ length (meaning_of t.table).checks
-  pub few : t.state.peeled + t.state.pruned + t.state.chosen + size t.state.erased + size t.state.shelved ≤ qubits (meaning_of t.table)
+  pub sized : Sized (meaning_of table) state
 
 -- the state that lists of statuses and marks, the void mark, the slip's number and the counts make
 abbrev pub state_of : List Status → (flipped closed odd : List Bool) → (void : Bool) → (number peeled pruned chosen : ℕ) → State

@@ -7,10 +7,11 @@ use Rattle.trial.specs.declared.tally.Counts.{Counts}
 abbrev pub counts_of : Counts → rules.Tally
 counts_of c = record { opened = c.opened; solved = c.solved; nothing = c.nothing; unfinished = c.unfinished }
 
--- at most 1,000,000 were opened, and no more were closed than opened
-pub record Bounded (t : rules.Tally) : Type 0 where
-  pub few : t.opened ≤ 1000000
-  pub balanced : rules.closings t ≤ t.opened
+-- a tally as its callers see it: its counts, of which at most 1,000,000 were opened, and no more were closed
+pub record Tallied : Type 0 where
+  pub counts : rules.Tally
+  pub few : counts.opened ≤ 1000000
+  pub balanced : rules.closings counts ≤ counts.opened
 
 -- whatever openings and closes led from a new tally to this one: what was opened is what was closed and the slips that are out
 abbrev pub Balances : rules.Tally → Type 0

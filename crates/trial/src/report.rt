@@ -20,7 +20,7 @@ pub struct Report<'a> {
 impl Report<'_> {
     /// Whether an opening on a table is refused, and why. Both lists are searched for each fault in turn.
     pub(crate) fn check(self, table: &Table, tally: &Tally) -> Result<(), Refusal>
-        ensures { result ≡ checked (fault (open_bars (meaning_of table.now) tally.now self.entry.lost.now self.entry.odd.now)) }
+        ensures { result ≡ checked (fault (open_bars (meaning_of table.now) tally.now.counts self.entry.lost.now self.entry.odd.now)) }
     {
         if some_past(table.qubits(), self.lost) {
             return Err(Refusal::QubitTooLarge);

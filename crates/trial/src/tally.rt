@@ -1,4 +1,6 @@
 //! The tally: how many trials were opened, and how they were closed.
+ghost use Rattle.std.specs.Prelude.{◌+◌, ◌≤◌};
+
 use std::marker::Model;
 
 mod calls;
@@ -17,16 +19,15 @@ pub struct Counts {
 #[derive(Drop)]
 pub struct Tally {
     counts: Counts,
+    ghost few: { counts.opened ≤ 1000000 },
+    ghost balanced: { counts.solved + counts.nothing + counts.unfinished ≤ counts.opened },
 }
 
 impl Model for Tally {
-    ghost use Rattle.rules.specs.Tallies as rules;
-    ghost use Rattle.trial.specs.Tallied.{counts_of, Bounded};
+    ghost use Rattle.trial.specs.Tallied.{counts_of, Tallied};
 
-    // the tally of the rules
-    ghost Value = { rules.Tally };
+    // the counts as the rules have them, and what is true of every tally
+    ghost Value = { Tallied };
 
-    ghost view = { λ t. counts_of t.counts };
-
-    ghost invariant = { λ t. Bounded (counts_of t.counts) };
+    ghost view = { λ t. record { counts = counts_of t.counts; few = t.few; balanced = t.balanced } };
 }

@@ -1,4 +1,7 @@
 //! A trial.
+ghost use Rattle.table.specs.OfTable.{meaning_of};
+ghost use Rattle.trial.specs.Standing.{Sized, state_of};
+
 use crate::trial::erasing::Erasures;
 use std::marker::Model;
 
@@ -23,17 +26,16 @@ pub struct Trial<'t> {
     peeled: u16,
     pruned: u16,
     chosen: u16,
+    ghost sized: { Sized (meaning_of erasures.table.now) (state_of erasures.status.items flipped.items closed.items odd.items void number peeled pruned chosen) },
 }
 
 impl<'t> Model for Trial<'t> {
-    ghost use Rattle.trial.specs.Standing.{Standing, Sized};
+    ghost use Rattle.trial.specs.Standing.{Standing};
 
-    // the table, and the state as the rules have it
+    // the table, the state as the rules have it, and what is true of every trial
     ghost Value = { Standing };
 
     ghost use Rattle.trial.specs.Seen.{standing_of};
 
     ghost view = { standing_of };
-
-    ghost invariant = { λ t. Sized (standing_of t) };
 }

@@ -1,7 +1,6 @@
 //! Making a tally, and counting on it.
 ghost use Rattle.std.specs.Prelude.{◌≡◌, ◌+◌, ◌<◌, ◌==◌, nat_le};
 ghost use Rattle.rules.specs.Tallies.{new_tally, one_more, closings, counted};
-ghost use Rattle.trial.specs.Tallied.{Bounded};
 
 use super::{Counts, Tally};
 use rules::answers::Outcome;
@@ -9,7 +8,7 @@ use rules::answers::Outcome;
 impl Tally {
     /// A tally on which nothing was opened.
     pub fn new() -> Tally
-        ensures { result ≡ new_tally }
+        ensures { result.counts ≡ new_tally }
     {
         Tally {
             counts: Counts::default(),
@@ -18,23 +17,21 @@ impl Tally {
 
     /// The number that the next trial and its slip will carry.
     pub(crate) fn next(&self) -> u32
-        ensures value { result ≡ self.now.opened + 1 }
-        ensures bounded { Bounded self.now }
+        ensures { result ≡ self.now.counts.opened + 1 }
     {
         self.counts.opened + 1
     }
 
     /// Whether no more trials can be opened.
     pub(crate) fn is_full(&self) -> bool
-        ensures { result ≡ nat_le 1000000 self.now.opened }
+        ensures { result ≡ nat_le 1000000 self.now.counts.opened }
     {
         self.counts.opened >= 1_000_000
     }
 
     /// Whether no slip is out.
     pub(crate) fn has_none_out(&self) -> bool
-        ensures value { result ≡ (self.now.opened == closings self.now) }
-        ensures bounded { Bounded self.now }
+        ensures { result ≡ (self.now.counts.opened == closings self.now.counts) }
     {
         let counts = self.counts;
         counts.opened == counts.solved + counts.nothing + counts.unfinished
@@ -42,18 +39,16 @@ impl Tally {
 
     /// One more is opened.
     pub(crate) fn open_one(&mut self)
-        requires { self.old.opened < 1000000 }
-        ensures counts { self.new ≡ one_more self.old }
-        ensures bounded { Bounded self.new }
+        requires { self.old.counts.opened < 1000000 }
+        ensures { self.new.counts ≡ one_more self.old.counts }
     {
         self.counts.opened += 1;
     }
 
     /// One more is closed.
     pub(crate) fn close_one(&mut self, outcome: Outcome)
-        requires { closings self.old < self.old.opened }
-        ensures counts { self.new ≡ counted outcome self.old }
-        ensures bounded { Bounded self.new }
+        requires { closings self.old.counts < self.old.counts.opened }
+        ensures { self.new.counts ≡ counted outcome self.old.counts }
     {
         match outcome {
             Outcome::Solved => self.counts.solved += 1,

@@ -3,7 +3,6 @@ ghost use Rattle.std.specs.Prelude.{◌≡◌};
 ghost use Rattle.rules.specs.Tallies.{outcome, close, copy_out};
 ghost use Rattle.table.specs.OfTable.{meaning_of};
 ghost use Rattle.trial.specs.Closing.{closed_of, TellsTruth};
-ghost use Rattle.trial.specs.Tallied.{Bounded};
 
 use super::Trial;
 use crate::slip::Slip;
@@ -27,11 +26,10 @@ impl Trial<'_> {
     /// error fits; "solved" only if the flipped qubits fit, exactly 2 ^ (pruned + chosen) errors do, and with nothing chosen each of these differs
     /// from the flipped qubits by a product of generators.
     pub fn close(&self, slip: Slip, tally: &mut Tally) -> Result<Verdict, NotClosed>
-        ensures does { closed_of result tally.new ≡ close self.now.state slip.number tally.old }
+        ensures does { closed_of result tally.new ≡ close self.now.state slip.number tally.old.counts }
         ensures truth { TellsTruth (meaning_of self.now.table) self.now.state result }
-        ensures bounded { (Bounded tally.old) × (Bounded tally.new) }
     {
-        if tally.has_none_out() || !self.is_shown(&slip) {
+        if !self.is_shown(&slip) || tally.has_none_out() {
             let refusal = Refusal::WrongSlip;
             return Err(NotClosed { refusal, slip });
         }

@@ -6,7 +6,6 @@ ghost use Rattle.rules.specs.Tallies.{open_trial};
 ghost use Rattle.table.specs.OfTable.{meaning_of};
 ghost use Rattle.upkeep.specs.Changed.{marked};
 ghost use Rattle.trial.specs.Opening.{Opens, OpenedOn, BegunOn};
-ghost use Rattle.trial.specs.Tallied.{Bounded};
 
 use super::Trial;
 use super::erasing::Erasures;
@@ -32,12 +31,11 @@ impl<'t> Trial<'t> {
         report: Report<'_>,
         tally: &mut Tally,
     ) -> Result<Opened<'t>, Refusal>
-        ensures does { Opens result tally.old tally.new (open_trial (meaning_of table.now) tally.old report.entry.lost.now report.entry.odd.now) }
+        ensures does { Opens result tally.old.counts tally.new.counts (open_trial (meaning_of table.now) tally.old.counts report.entry.lost.now report.entry.odd.now) }
         ensures table { OpenedOn table.now result }
-        ensures bounded { (Bounded tally.old) × (Bounded tally.new) }
     {
-        let number = tally.next();
         report.check(table, tally)?;
+        let number = tally.next();
         let trial = begin(heap, table, report, number)?;
         tally.open_one();
         let slip = Slip::new(number);

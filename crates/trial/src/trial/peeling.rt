@@ -12,7 +12,7 @@ use terms::refusal::Refusal;
 use terms::row::Row;
 
 impl Trial<'_> {
-    // Kept: that the whole table stays stands beside what happens, here, at `prune` and at `finish`; a definition of both would hide one equation behind a word.
+    // Kept: that the table stays stands beside what happens, here, at `prune` and at `finish`: the rules have a state and no table, and a definition of both would hide one equation behind a word.
     /// Peels a dangling check, an open one that holds exactly one erased qubit: the qubit is done, flipped if the check is odd. Answers the qubit.
     pub fn peel(&mut self, slip: &Slip, check: u16) -> Result<u16, Refusal>
         ensures does { (result, self.new.state) ≡ peel (meaning_of self.old.table) self.old.state slip.now.number check }

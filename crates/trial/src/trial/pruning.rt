@@ -8,7 +8,6 @@ ghost use Rattle.rules.specs.Calls.{some_outside, prune_bars, prune};
 ghost use Rattle.table.specs.OfTable.{meaning_of};
 ghost use Rattle.upkeep.specs.Fault.{fault};
 ghost use Rattle.upkeep.specs.Statuses.{erased_of};
-ghost use Rattle.trial.specs.Standing.{Sized};
 
 use super::Trial;
 use crate::slip::Slip;
@@ -33,8 +32,7 @@ impl Trial<'_> {
 
     /// Whether a prune is refused, and why.
     fn prune_fault(&self, slip: &Slip, qubit: u16, generators: &[u16]) -> Result<(), Refusal>
-        ensures value { result ≡ checked (fault (prune_bars (meaning_of self.now.table) self.now.state slip.now.number qubit generators.now)) }
-        ensures sized { Sized self.now }
+        ensures { result ≡ checked (fault (prune_bars (meaning_of self.now.table) self.now.state slip.now.number qubit generators.now)) }
     {
         if qubit >= self.erasures.table.qubits() {
             return Err(Refusal::QubitTooLarge);

@@ -13,7 +13,7 @@ use Rattle.trial.proofs.trial.Trial.open.Goals as goal
 pub returns-in_err-check-clause-does : goal.returns-in_err-check-clause-does
 returns-in_err-check-clause-does c =
     let M = meaning_of c.args.table.now in
-    let tally = c.args.tally.now in
+    let tally = c.args.tally.now.counts in
     let lost = c.args.report.lost.now in
     let odds = c.args.report.odd.now in
     let p = err_from_is_err_and c.from_residual.result c.from_residual.ensures.1 in
@@ -23,10 +23,10 @@ returns-in_err-check-clause-does c =
 pub returns-clause-does : goal.returns-clause-does
 returns-clause-does c =
     let M = meaning_of c.args.table.now in
-    let tally = c.args.tally.now in
+    let tally = c.args.tally.now.counts in
     let lost = c.args.report.lost.now in
     let odds = c.args.report.odd.now in
     let fine = passes (fault (open_bars M tally lost odds)) _ c.in_ok-check.ensures in
     let begun = c.in_ok-trial.ensures in
-    let same = numbered M tally lost odds c.in_ok-trial.trial.state c.next-number.result c.new-slip.result.number begun.begins c.next-number.ensures.value c.new-slip.ensures in
-    opens M tally lost odds _ c.open_one.new.self fine same c.open_one.ensures.counts
+    let same = numbered M tally lost odds c.in_ok-trial.trial.state c.next-number.result c.new-slip.result.number begun.begins c.next-number.ensures c.new-slip.ensures in
+    opens M tally lost odds _ c.open_one.new.self.counts fine same c.open_one.ensures

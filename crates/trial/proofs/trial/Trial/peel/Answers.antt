@@ -12,7 +12,7 @@ use Rattle.upkeep.specs.Rows.{first_in}
 use Rattle.upkeep.specs.Statuses.{erased_of}
 use Rattle.upkeep.proofs.Faults.{fault_some}
 use Rattle.upkeep.proofs.Finish.{total}
-use Rattle.trial.specs.Standing.{Standing, Sized}
+use Rattle.trial.specs.Standing.{Standing}
 use Rattle.trial.specs.Seen.{standing_of}
 use Rattle.trial.proofs.Checked.{passes, stops}
 use Rattle.trial.proofs.Done.{code, room}
@@ -32,7 +32,7 @@ unreachable-requires c =
     let slip = c.args.slip.now.number in
     let k = c.args.check in
     let fine = passes (fault (peel_bars (code t) t.state slip k)) _ c.in_ok-peel_fault.ensures in
-    some_erased t (subst Sized c.self.view_is c.self.invariant) slip k fine
+    some_erased t slip k fine
     (c.in_default.ensures ∙ ap₂ (λ l r. first_in (erased_of l) r) c.as_slice.ensures.value c.row-row.ensures ∙ ap (λ (s : Standing). first_in s.state.erased (told_of s.table (Check k))) c.self.view_is)
 
 pub finish-requires : goal.finish-requires
@@ -41,25 +41,24 @@ finish-requires c =
     let slip = c.args.slip.now.number in
     let k = c.args.check in
     let fine = passes (fault (peel_bars (code t) t.state slip k)) _ c.in_ok-peel_fault.ensures in
-    is_qubit t (subst Sized c.self.view_is c.self.invariant) slip k fine c.in-Some.qubit
+    is_qubit t slip k fine c.in-Some.qubit
     (c.in-Some.ensures ∙ ap₂ (λ l r. first_in (erased_of l) r) c.as_slice.ensures.value c.row-row.ensures ∙ ap (λ (s : Standing). first_in s.state.erased (told_of s.table (Check k))) c.self.view_is)
 
 pub overflow_add-self : goal.overflow_add-self
-overflow_add-self c = omega (arith, c.self-2.invariant.few, (table_sound c.self-2.inside.erasures.table.now).few_qubits)
+overflow_add-self c = omega (arith, c.self-2.inside.sized.few, (table_sound c.self-2.inside.erasures.table.now).few_qubits)
 
-pub invariant_of-self : goal.invariant_of-self
-invariant_of-self c =
+pub invariant_of-self-inside : goal.invariant_of-self-inside
+invariant_of-self-inside c =
     let t = c.args.self.now in
     let slip = c.args.slip.now.number in
     let k = c.args.check in
     let q = c.in-Some.qubit in
-    let sized = subst Sized c.self.view_is c.self.invariant in
     let fine = passes (fault (peel_bars (code t) t.state slip k)) _ c.in_ok-peel_fault.ensures in
     let found = c.in-Some.ensures ∙ ap₂ (λ l r. first_in (erased_of l) r) c.as_slice.ensures.value c.row-row.ensures ∙ ap (λ (s : Standing). first_in s.state.erased (told_of s.table (Check k))) c.self.view_is in
-    let more = room t c.finish.new.self q _ sized (is_qubit t sized slip k fine q found) (erased_is t sized slip k fine q found) c.finish.ensures.does c.finish.ensures.table in
+    let more = room t c.finish.new.self q _ (is_qubit t slip k fine q found) (erased_is t slip k fine q found) c.finish.ensures.does c.finish.ensures.table in
     let left = subst (λ (s : Standing). total s.state + 1 ≤ qubits (code s)) (sym c.self-2.view_is) more in
-    let i = c.self-2.invariant in
-    record { erased = i.erased; shelved = i.shelved; flipped = i.flipped; closed = i.closed; odds = i.odds; few = omega (arith, left) }
+    let i = c.self-2.inside.sized in
+    (record { erased = i.erased; shelved = i.shelved; flipped = i.flipped; closed = i.closed; odds = i.odds; few = omega (arith, left) }, tt)
 
 pub returns-clause-does : goal.returns-clause-does
 returns-clause-does c =
@@ -68,9 +67,8 @@ returns-clause-does c =
     let k = c.args.check in
     let q = c.in-Some.qubit in
     let flip = c.index-flip.result.now in
-    let sized = subst Sized c.self.view_is c.self.invariant in
     let fine = passes (fault (peel_bars (code t) t.state slip k)) _ c.in_ok-peel_fault.ensures in
     let found = c.in-Some.ensures ∙ ap₂ (λ l r. first_in (erased_of l) r) c.as_slice.ensures.value c.row-row.ensures ∙ ap (λ (s : Standing). first_in s.state.erased (told_of s.table (Check k))) c.self.view_is in
-    let low : k < length t.state.odds = omega (arith, is_check t sized slip k fine, sized.odds) in
+    let low : k < length t.state.odds = omega (arith, is_check t slip k fine, t.sized.odds) in
     let odd = get_or_read t.state.odds k flip low (subst (λ (s : Standing). flip ≡ get_or s.state.odds k flip) c.self.view_is c.index-flip.ensures) false in
-    peels t sized slip k fine q found (standing_of c.self-2.inside).state flip odd (ap (λ (s : Standing). s.state) c.self-2.view_is ∙ c.finish.ensures.does)
+    peels t slip k fine q found (standing_of c.self-2.inside).state flip odd (ap (λ (s : Standing). s.state) c.self-2.view_is ∙ c.finish.ensures.does)

@@ -19,22 +19,22 @@ returns-in_err-prune_fault-clause-does c =
     let t = c.args.self.now in
     let bars = prune_bars (code t) t.state c.args.slip.now.number c.args.qubit c.args.generators.now in
     let p = err_from_is_err_and c.from_residual.result c.from_residual.ensures.1 in
-    ap (λ (r : Result (Unit {0}) Refusal). (r, t.state)) p.1 ∙ sym (fault_some t.state _ bars p.0 (stops p.0 (fault bars) (ap Err p.2 ∙ c.in_err-prune_fault.ensures.value)))
+    ap (λ (r : Result (Unit {0}) Refusal). (r, t.state)) p.1 ∙ sym (fault_some t.state _ bars p.0 (stops p.0 (fault bars) (ap Err p.2 ∙ c.in_err-prune_fault.ensures)))
 
 pub overflow_add-self : goal.overflow_add-self
-overflow_add-self c = omega (arith, c.self.invariant.few, (table_sound c.self.inside.erasures.table.now).few_qubits)
+overflow_add-self c = omega (arith, c.self.inside.sized.few, (table_sound c.self.inside.erasures.table.now).few_qubits)
 
-pub invariant_of-self : goal.invariant_of-self
-invariant_of-self c =
+pub invariant_of-self-inside : goal.invariant_of-self-inside
+invariant_of-self-inside c =
     let t = c.args.self.now in
     let slip = c.args.slip.now.number in
     let q = c.args.qubit in
     let l = c.args.generators.now in
-    let fine = passes (fault (prune_bars (code t) t.state slip q l)) _ c.in_ok-prune_fault.ensures.value in
-    let more = room t c.finish.new.self q _ c.in_ok-prune_fault.ensures.sized (is_qubit t slip q l fine) (erased_is t slip q l fine) c.finish.ensures.does c.finish.ensures.table in
+    let fine = passes (fault (prune_bars (code t) t.state slip q l)) _ c.in_ok-prune_fault.ensures in
+    let more = room t c.finish.new.self q _ (is_qubit t slip q l fine) (erased_is t slip q l fine) c.finish.ensures.does c.finish.ensures.table in
     let left = subst (λ (s : Standing). total s.state + 1 ≤ qubits (code s)) (sym c.self.view_is) more in
-    let i = c.self.invariant in
-    record { erased = i.erased; shelved = i.shelved; flipped = i.flipped; closed = i.closed; odds = i.odds; few = omega (arith, left) }
+    let i = c.self.inside.sized in
+    (record { erased = i.erased; shelved = i.shelved; flipped = i.flipped; closed = i.closed; odds = i.odds; few = omega (arith, left) }, tt)
 
 pub returns-clause-does : goal.returns-clause-does
 returns-clause-does c =
@@ -42,5 +42,5 @@ returns-clause-does c =
     let slip = c.args.slip.now.number in
     let q = c.args.qubit in
     let l = c.args.generators.now in
-    let fine = passes (fault (prune_bars (code t) t.state slip q l)) _ c.in_ok-prune_fault.ensures.value in
+    let fine = passes (fault (prune_bars (code t) t.state slip q l)) _ c.in_ok-prune_fault.ensures in
     prunes t slip q l fine (standing_of c.self.inside).state (ap (λ (s : Standing). s.state) c.self.view_is ∙ c.finish.ensures.does)

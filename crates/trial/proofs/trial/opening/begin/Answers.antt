@@ -1,7 +1,15 @@
 use Rattle.std.proofs.Common.{false, replicate, ap, ◌∙◌}
 use Rattle.upkeep.specs.Changed.{marked}
-use Rattle.trial.proofs.Opens.{begun}
+use Rattle.trial.proofs.Opens.{begins, is_sized}
 use Rattle.trial.proofs.trial.opening.begin.Goals as goal
+
+pub invariant_of-result : goal.invariant_of-result
+invariant_of-result c =
+    let flipped = c.in_ok-flipped.ensures.items_if_clones_equal (λ y e. e) ∙ ap (λ k. replicate k false) c.qubits.ensures in
+    let closed = c.in_ok-closed.ensures.items_if_clones_equal (λ y e. e) ∙ ap (λ k. replicate k false) c.checks.ensures in
+    let odd = c.in_ok-odd.ensures ∙ ap (λ k. marked c.args.report.odd.now (replicate k false)) c.checks-2.ensures in
+    let is = c.in_ok-erasures.ensures in
+    (is_sized c.args.table.now c.args.report.lost.now c.args.report.odd.now c.args.number c.in_ok-erasures.erasures _ _ _ is.0 is.1 flipped closed odd, tt)
 
 pub returns : goal.returns
 returns c =
@@ -9,7 +17,4 @@ returns c =
     let closed = c.in_ok-closed.ensures.items_if_clones_equal (λ y e. e) ∙ ap (λ k. replicate k false) c.checks.ensures in
     let odd = c.in_ok-odd.ensures ∙ ap (λ k. marked c.args.report.odd.now (replicate k false)) c.checks-2.ensures in
     let is = c.in_ok-erasures.ensures in
-    begun c.args.table.now c.args.report.lost.now c.args.report.odd.now c.args.number c.in_ok-erasures.erasures _ _ _ is.0 is.1 flipped closed odd c.requires.lost c.requires.odd
-
-pub invariant_of-result : goal.invariant_of-result
-invariant_of-result c = (returns c).sized
+    record { on_table = is.0; begins = begins c.args.table.now c.args.report.lost.now c.args.report.odd.now c.args.number c.in_ok-erasures.erasures _ _ _ is.0 is.1 flipped closed odd c.requires.lost c.requires.odd }

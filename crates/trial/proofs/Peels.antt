@@ -1,5 +1,5 @@
 -- A peel that is not refused.
-use Rattle.std.proofs.Common.{◌≡◌, ℕ, ◌+◌, ◌<◌, Bool, true, cond, not, eqb, ltb, List, length, Some, None, Ok, Result, sym, ap, ◌∙◌, arith, ltb-true, eqb-true}
+use Rattle.std.proofs.Common.{◌≡◌, ℕ, ◌+◌, ◌<◌, Bool, true, cond, not, eqb, ltb, List, length, Some, None, Ok, Result, vec_items, sym, ap, ap₂, ◌∙◌, arith, ltb-true, eqb-true}
 use Rattle.std.proofs.lemmas.Bool.{and_parts, not-false}
 use Rattle.terms.specs.declared.refusal.Refusal.{Refusal}
 use Rattle.terms.specs.declared.row.Row.TheVariants.{Check}
@@ -8,6 +8,7 @@ use Rattle.sets.proofs.Bits.{clash}
 use Rattle.sets.proofs.Sets.{has_below, has_meet}
 use Rattle.sets.proofs.Sizes.{one_of}
 use Rattle.meaning.specs.Meaning.{qubits}
+use Rattle.rules.specs.declared.answers.Status.{Status}
 use Rattle.rules.specs.States.{State, finish, count}
 use Rattle.rules.specs.Calls.{held, dangling, peel_bars, peel}
 use Rattle.rules.proofs.Bars.{Clear}
@@ -15,11 +16,14 @@ use Rattle.table.specs.OfTable.{told_of}
 use Rattle.table.specs.Stands.{table_sound, table_tells}
 use Rattle.upkeep.specs.Fault.{fault}
 use Rattle.upkeep.specs.Rows.{first_in}
+use Rattle.upkeep.specs.Statuses.{erased_of}
 use Rattle.upkeep.proofs.Faults.{fault_clear, fault_none}
 use Rattle.upkeep.proofs.Rows.{first_in_lem, none_in}
 use Rattle.upkeep.proofs.Finish.{with_counts, count_peeled}
 use Rattle.upkeep.proofs.Peeled.{peel_one}
 use Rattle.trial.specs.Standing.{Standing}
+use Rattle.trial.specs.Seen.{standing_of}
+use Rattle.trial.specs.declared.trial.Trial.TheInside.{Inside}
 use Rattle.trial.proofs.Done.{code}
 
 module _ (t : Standing) (slip k : ℕ) (fine : None ≡ fault (peel_bars (code t) t.state slip k)) where
@@ -37,6 +41,11 @@ module _ (t : Standing) (slip k : ℕ) (fine : None ≡ fault (peel_bars (code t
 
   named : (q : ℕ) → among q told ≡ has (row (code t).checks k) q
   named q = (table_tells t.table).names (Check k) (not-false (ltb k (length (code t).checks)) clear.0) q
+
+  -- what is found at the fields is what the rule finds
+  pub at_fields : (i : Inside) → standing_of i ≡ t → (l : List Status) (r : List ℕ) → l ≡ vec_items i.erasures.status → r ≡ told_of i.erasures.table.now (Check k)
+      → first_in (erased_of l) r ≡ first_in t.state.erased told
+  at_fields i is l r el er = ap₂ (λ x y. first_in (erased_of x) y) el er ∙ ap (λ (x : Standing). first_in x.state.erased (told_of x.table (Check k))) is
 
   -- the row has an erased qubit
   pub some_erased : None ≡ first_in t.state.erased told → ⊥

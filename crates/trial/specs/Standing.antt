@@ -1,4 +1,4 @@
--- A trial as its callers see it: its table, and its state as the rules have it.
+-- A trial as its callers see it: its table, its state as the rules have it, and what is true of every one.
 use Rattle.std.specs.Prelude.{◌≡◌, ℕ, ◌+◌, ◌≤◌, Bool, List, [], length}
 use Rattle.sets.specs.Sets.{size}
 use Rattle.meaning.specs.Meaning.{Meaning, qubits}
@@ -8,7 +8,8 @@ use Rattle.table.specs.OfTable.{meaning_of}
 use Rattle.table.specs.declared.Table.{Table}
 use Rattle.upkeep.specs.Statuses.{erased_of, shelved_of}
 
--- there is a mark for each qubit and each check of the code, and what was counted and is left is no more than the qubits
+-- what is true of every trial: there is a mark for each qubit and each check of the code;
+-- and the counts and the qubits that are left come to no more than the qubits, so that no count overflows
 pub record Sized (M : Meaning) (s : State) : Type 0 where
   pub erased : length s.erased ≡ qubits M
   pub shelved : length s.shelved ≡ qubits M
@@ -17,6 +18,7 @@ pub record Sized (M : Meaning) (s : State) : Type 0 where
   pub odds : length s.odds ≡ length M.checks
   pub few : s.peeled + s.pruned + s.chosen + size s.erased + size s.shelved ≤ qubits M
 
+-- what a contract sees of a trial
 pub record Standing : Type 0 where
   pub table : Table
   pub state : State

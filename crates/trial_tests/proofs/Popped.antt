@@ -17,7 +17,7 @@ own_rest slips rest last n e own k s h = go (cases_lt k (length rest))
 
 -- and the one that was taken off has that of its trial
 pub own_last : (trials : List Trial) (slips rest : List (Option Slip)) (s : Slip) (t : Trial) (k : ℕ) → slips ≡ rest ++ (Some s ∷ []) → k ≡ length rest → k < length trials
-    → t ≡ get_or trials k t → Own slips (trial_numbers trials) → s.number ≡ t.number
+    → t ≡ get_or trials k t → Own slips (trial_numbers trials) → s.number ≡ t.state.number
 own_last trials slips rest s t k e is low at own =
     own k s (ap (λ l. get_or l k None) e ∙ ap (λ j. get_or (rest ++ (Some s ∷ [])) j None) is ∙ get_or-append_seam rest (Some s) [] None)
-    ∙ get_or-map (λ (x : Trial). x.number) trials k t 0 low ∙ ap (λ (x : Trial). x.number) (sym at)
+    ∙ get_or-map (λ (x : Trial). x.state.number) trials k t 0 low ∙ ap (λ (x : Trial). x.state.number) (sym at)

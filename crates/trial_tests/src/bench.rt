@@ -8,6 +8,7 @@ use crate::telling::{Answer, Bytes, Counted, State, Told};
 use played::line::Line;
 use played::numbers::Numbers;
 use std::alloc::Global;
+use trial::report::Report;
 use trial::slip::Slip;
 use trial::tally::Tally;
 use trial::trial::Trial;
@@ -91,7 +92,11 @@ impl<'t> Bench<'t> {
         self.slips.reserve(1)?;
         self.trials.reserve(1)?;
         let tallies = self.tallies.as_mut_slice();
-        let answer = match open_at(heap, table, lost.as_slice(), odd.as_slice(), tallies, place) {
+        let report = Report {
+            lost: lost.as_slice(),
+            odd: odd.as_slice(),
+        };
+        let answer = match open_at(heap, table, report, tallies, place) {
             Ok(opened) => keep(opened, &mut self.trials, &mut self.slips),
             Err(refusal) => Answer::Refused(refusal),
         };

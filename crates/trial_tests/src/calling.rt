@@ -7,6 +7,7 @@ use played::numbers::Numbers;
 use std::alloc::{AllocError, Global};
 use table::Table;
 use terms::refusal::Refusal;
+use trial::report::Report;
 use trial::slip::Slip;
 use trial::tally::Tally;
 use trial::trial::Trial;
@@ -58,27 +59,25 @@ pub(crate) fn prune(
 pub(crate) fn open_at<'t>(
     heap: Global,
     table: &'t Table,
-    lost: &[u16],
-    odd: &[u16],
+    report: Report<'_>,
     tallies: &mut [Tally],
     place: usize,
 ) -> Result<Opened<'t>, Refusal>
     requires { place < length tallies.old }
     ensures { OpensOne result (outs tallies.old) (outs tallies.new) }
 {
-    open_on(heap, table, lost, odd, &mut tallies[place])
+    open_on(heap, table, report, &mut tallies[place])
 }
 
 fn open_on<'t>(
     heap: Global,
     table: &'t Table,
-    lost: &[u16],
-    odd: &[u16],
+    report: Report<'_>,
     tally: &mut Tally,
 ) -> Result<Opened<'t>, Refusal>
     ensures { OpensOne result (out tally.old) (out tally.new) }
 {
-    Trial::open(heap, table, lost, odd, tally)
+    Trial::open(heap, table, report, tally)
 }
 
 /// Keeps a trial and its slip, for which there is room.
@@ -87,7 +86,7 @@ pub(crate) fn keep<'t>(
     trials: &mut Vec<Trial<'t>>,
     slips: &mut Vec<Option<Slip>>,
 ) -> Answer
-    requires number { opened.slip.number ≡ opened.trial.number }
+    requires number { opened.slip.number ≡ opened.trial.state.number }
     requires trials { vec_len trials.old < vec_capacity trials.old }
     requires slips { vec_len slips.old < vec_capacity slips.old }
     requires own { Own slips.old.items (trial_numbers trials.old.items) }
@@ -156,7 +155,7 @@ pub(crate) fn close_all(trials: &[Trial<'_>], slips: Vec<Option<Slip>>, tallies:
 
 /// Closes with the trial's own slip, on the first tally that counts one out.
 fn close_somewhere(trial: &Trial<'_>, slip: Slip, tallies: &mut [Tally])
-    requires own { slip.number ≡ trial.now.number }
+    requires own { slip.number ≡ trial.now.state.number }
     requires count { 0 < outs tallies.old }
     ensures { outs tallies.new + 1 ≡ outs tallies.old }
 {
@@ -165,7 +164,7 @@ fn close_somewhere(trial: &Trial<'_>, slip: Slip, tallies: &mut [Tally])
 }
 
 fn close_own(trial: &Trial<'_>, slip: Slip, tally: &mut Tally)
-    requires own { slip.number ≡ trial.now.number }
+    requires own { slip.number ≡ trial.now.state.number }
     requires count { 0 < out tally.old }
     ensures { out tally.new + 1 ≡ out tally.old }
 {
@@ -218,8 +217,12 @@ pub(crate) fn churn_at(
 fn churn_on(heap: Global, table: &Table, tally: &mut Tally, times: u32) -> Answer
     ensures { out tally.new ≡ out tally.old }
 {
+    let nothing = Report {
+        lost: &[],
+        odd: &[],
+    };
     for _ in 0..times {
-        match open_on(heap, table, &[], &[], tally) {
+        match open_on(heap, table, nothing, tally) {
             Ok(Opened { trial, slip }) => close_own(&trial, slip, tally),
             Err(refusal) => return Answer::Refused(refusal),
         }

@@ -1,4 +1,4 @@
-//! The qubits that a trial begins with.
+//! The erased qubits of a trial.
 ghost use Rattle.std.specs.Prelude.{◌≡◌, ◌<◌, ◌==◌, false, length, replicate, IfOk, slice_set};
 ghost use Rattle.sets.specs.Sets.{row, meet, size};
 ghost use Rattle.meaning.specs.Meaning.{qubits};
@@ -15,12 +15,13 @@ use rules::answers::Status;
 use std::alloc::{AllocError, Global};
 use table::Table;
 
-/// The status of each qubit, and for each check, how many erased qubits it holds.
+/// The status of each qubit of a table's code, and how many erased qubits each check holds.
 #[derive(Drop)]
 pub(crate) struct Erasures<'t> {
     pub(crate) table: &'t Table,
     pub(crate) status: Vec<Status>,
-    pub(crate) held: Vec<u16>,
+    /// For each check, how many erased qubits it holds, so that a dangling check is found without reading its row.
+    held: Vec<u16>,
     ghost fit: { length status.items ≡ qubits (meaning_of table.now) },
     ghost counts: { held.items ≡ counts_in (meaning_of table.now).checks (erased_of status.items) },
 }

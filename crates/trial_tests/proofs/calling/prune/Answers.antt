@@ -8,5 +8,5 @@ use Rattle.trial_tests.proofs.calling.prune.Goals as goal
 pub returns : goal.returns
 returns c =
     let t = c.in-Some.trial.now in
-    let same = prune_number (meaning_of t.table.now) t c.prune.new.self c.in-Some-Some.slip.number c.short-qubit.result c.as_slice.result.now c.prune.result c.prune.ensures.does in
-    map-set_same (λ (x : Trial). x.number) c.args.trials.now.items c.place-place.result c.prune.new.self t (same ∙ ap (λ (x : Trial). x.number) c.in-Some.ensures.value)
+    let same = prune_number (meaning_of t.table) t c.prune.new.self c.in-Some-Some.slip.number c.short-qubit.result c.as_slice.result.now c.prune.result c.prune.ensures.does in
+    map-set_same (λ (x : Trial). x.state.number) c.args.trials.now.items c.place-place.result c.prune.new.self t (same ∙ ap (λ (x : Trial). x.state.number) c.in-Some.ensures.value)

@@ -1,22 +1,18 @@
-use Rattle.std.proofs.Common.{◌≡◌, ℕ, ◌+◌, ◌<◌, ◌≤◌, false, length, get_or, Err, Result, sym, ap, ap₂, ◌∙◌, subst, arith}
+use Rattle.std.proofs.Common.{◌≡◌, ℕ, ◌+◌, ◌<◌, ◌≤◌, false, length, get_or, Err, Result, sym, ap, ◌∙◌, subst, arith}
 use Rattle.std.proofs.lemmas.List.{get_or_read}
 use Rattle.std.proofs.lemmas.Result.{err_from_is_err_and}
 use Rattle.terms.specs.declared.refusal.Refusal.{Refusal}
-use Rattle.terms.specs.declared.row.Row.TheVariants.{Check}
 use Rattle.meaning.specs.Meaning.{qubits}
 use Rattle.rules.specs.Calls.{peel_bars}
-use Rattle.table.specs.OfTable.{told_of}
 use Rattle.table.specs.Stands.{table_sound}
 use Rattle.upkeep.specs.Fault.{fault}
-use Rattle.upkeep.specs.Rows.{first_in}
-use Rattle.upkeep.specs.Statuses.{erased_of}
 use Rattle.upkeep.proofs.Faults.{fault_some}
 use Rattle.upkeep.proofs.Finish.{total}
 use Rattle.trial.specs.Standing.{Standing}
 use Rattle.trial.specs.Seen.{standing_of}
 use Rattle.trial.proofs.Checked.{passes, stops}
 use Rattle.trial.proofs.Done.{code, room}
-use Rattle.trial.proofs.Peels.{is_check, some_erased, erased_is, is_qubit, peels}
+use Rattle.trial.proofs.Peels.{is_check, at_fields, some_erased, erased_is, is_qubit, peels}
 use Rattle.trial.proofs.trial.Trial.peel.Goals as goal
 
 pub returns-in_err-peel_fault-clause-does : goal.returns-in_err-peel_fault-clause-does
@@ -33,7 +29,7 @@ unreachable-requires c =
     let k = c.args.check in
     let fine = passes (fault (peel_bars (code t) t.state slip k)) _ c.in_ok-peel_fault.ensures in
     some_erased t slip k fine
-    (c.in_default.ensures ∙ ap₂ (λ l r. first_in (erased_of l) r) c.as_slice.ensures.value c.row-row.ensures ∙ ap (λ (s : Standing). first_in s.state.erased (told_of s.table (Check k))) c.self.view_is)
+    (c.in_default.ensures ∙ at_fields t slip k fine c.self.inside c.self.view_is _ _ c.as_slice.ensures.value c.row-row.ensures)
 
 pub finish-requires : goal.finish-requires
 finish-requires c =
@@ -42,7 +38,7 @@ finish-requires c =
     let k = c.args.check in
     let fine = passes (fault (peel_bars (code t) t.state slip k)) _ c.in_ok-peel_fault.ensures in
     is_qubit t slip k fine c.in-Some.qubit
-    (c.in-Some.ensures ∙ ap₂ (λ l r. first_in (erased_of l) r) c.as_slice.ensures.value c.row-row.ensures ∙ ap (λ (s : Standing). first_in s.state.erased (told_of s.table (Check k))) c.self.view_is)
+    (c.in-Some.ensures ∙ at_fields t slip k fine c.self.inside c.self.view_is _ _ c.as_slice.ensures.value c.row-row.ensures)
 
 pub overflow_add-self : goal.overflow_add-self
 overflow_add-self c = omega (arith, c.self-2.inside.sized.few, (table_sound c.self-2.inside.erasures.table.now).few_qubits)
@@ -54,7 +50,7 @@ invariant_of-self-inside c =
     let k = c.args.check in
     let q = c.in-Some.qubit in
     let fine = passes (fault (peel_bars (code t) t.state slip k)) _ c.in_ok-peel_fault.ensures in
-    let found = c.in-Some.ensures ∙ ap₂ (λ l r. first_in (erased_of l) r) c.as_slice.ensures.value c.row-row.ensures ∙ ap (λ (s : Standing). first_in s.state.erased (told_of s.table (Check k))) c.self.view_is in
+    let found = c.in-Some.ensures ∙ at_fields t slip k fine c.self.inside c.self.view_is _ _ c.as_slice.ensures.value c.row-row.ensures in
     let more = room t c.finish.new.self q _ (is_qubit t slip k fine q found) (erased_is t slip k fine q found) c.finish.ensures.does c.finish.ensures.table in
     let left = subst (λ (s : Standing). total s.state + 1 ≤ qubits (code s)) (sym c.self-2.view_is) more in
     let i = c.self-2.inside.sized in
@@ -68,7 +64,7 @@ returns-clause-does c =
     let q = c.in-Some.qubit in
     let flip = c.index-flip.result.now in
     let fine = passes (fault (peel_bars (code t) t.state slip k)) _ c.in_ok-peel_fault.ensures in
-    let found = c.in-Some.ensures ∙ ap₂ (λ l r. first_in (erased_of l) r) c.as_slice.ensures.value c.row-row.ensures ∙ ap (λ (s : Standing). first_in s.state.erased (told_of s.table (Check k))) c.self.view_is in
+    let found = c.in-Some.ensures ∙ at_fields t slip k fine c.self.inside c.self.view_is _ _ c.as_slice.ensures.value c.row-row.ensures in
     let low : k < length t.state.odds = omega (arith, is_check t slip k fine, t.sized.odds) in
     let odd = get_or_read t.state.odds k flip low (subst (λ (s : Standing). flip ≡ get_or s.state.odds k flip) c.self.view_is c.index-flip.ensures) false in
     peels t slip k fine q found (standing_of c.self-2.inside).state flip odd (ap (λ (s : Standing). s.state) c.self-2.view_is ∙ c.finish.ensures.does)

@@ -1,5 +1,6 @@
 -- What a close and an opening do to the count of slips that are out, and that the calls on a trial keep its number.
-use Rattle.std.proofs.Common.{◌≡◌, ℕ, ◌+◌, ◌-◌, ◌<◌, Bool, true, false, cond, not, eqb, List, Some, Ok, Err, Result, sym, refl, ap, ◌∙◌, arith, eqb-true, eq-eqb}
+use Rattle.std.proofs.Common.{◌≡◌, ℕ, ◌+◌, ◌-◌, ◌<◌, Bool, true, false, cond, not, eqb, List, Some, Ok, Err, Option, Result, get_or, set, sym, refl, ap, ◌∙◌, subst, arith, eqb-true, eq-eqb}
+use Rattle.std.proofs.Math.Seq.{map-set_same}
 use Rattle.std.proofs.lemmas.Bool.{eqb-false}
 use Rattle.terms.specs.declared.refusal.Refusal.{Refusal}
 use Rattle.terms.specs.declared.refusal.Refusal.TheVariants.{WrongSlip}
@@ -14,13 +15,14 @@ use Rattle.rules.specs.Tallies as rules
 use Rattle.rules.specs.Companions.{Kept}
 use Rattle.rules.proofs.Bars.{guarded, accepted, passed, not_ok}
 use Rattle.rules.proofs.Refused.{refusals_keep}
+use Rattle.trial.specs.declared.slip.Slip.{Slip}
 use Rattle.trial.specs.declared.tally.Tally.{Tally}
 use Rattle.trial.specs.declared.trial.Trial.{Trial}
 use Rattle.trial.specs.declared.trial.closing.NotClosed.{NotClosed}
 use Rattle.trial.specs.declared.trial.opening.Opened.{Opened}
 use Rattle.trial.specs.Closing.{closed_of}
 use Rattle.trial.specs.Opening.{OpensAs, Opens, opened_of}
-use Rattle.trial_tests.specs.Slips.{out, OpensOne}
+use Rattle.trial_tests.specs.Slips.{out, trial_numbers, Own, OpensOne}
 
 -- one more is closed
 one_closed : (o : Outcome) (t : rules.Tally) → (rules.closings (rules.counted o t) ≡ rules.closings t + 1) × ((rules.counted o t).opened ≡ t.opened)
@@ -107,3 +109,7 @@ peel_number M t u slip c r e =
 pub prune_number : (M : Meaning) (t u : Trial) (slip q : ℕ) (l : List ℕ) (r : Result (Unit {0}) Refusal) → ◌≡◌ {A = Result (Unit {0}) Refusal × State} (r, u.state) (prune M t.state slip q l) → u.state.number ≡ t.state.number
 prune_number M t u slip q l r e =
     ap (λ (x : Result (Unit {0}) Refusal × State). x.1.number) e ∙ guarded (prune_bars M t.state slip q l) t.state _ (λ (x : State). x.number ≡ t.state.number) refl (λ _. refl)
+
+-- and another trial of the same number leaves each slip the number at its place
+pub own_after : (slips : List (Option Slip)) (l : List Trial) (k : ℕ) (u d : Trial) → u.state.number ≡ (get_or l k d).state.number → Own slips (trial_numbers l) → Own slips (trial_numbers (set l k u))
+own_after slips l k u d e own = subst (Own slips) (sym (map-set_same (λ (x : Trial). x.state.number) l k u d e)) own

@@ -14,8 +14,8 @@ use trial::trial::closing::NotClosed;
 use trial::trial::opening::Opened;
 
 /// Opens on one of the tallies.
-// Kept: a list and a place, here, in `Trials::close` and in `churn_at`. Each says what its call does to the sum over all tallies, which `Bench` knows;
-// one function with a closure would need a clause that carries what the closure says of one tally to the sum, and be called with three such.
+// Kept: a list and a place, here, in `Trials::close` and in `churn_at`. Each says what its call does to the sum over all tallies, which `Bench`
+// knows; one function with a closure would need a clause that carries what the closure says of one tally to the sum, and be called with three such.
 pub(crate) fn open_at<'t>(
     heap: Global,
     table: &'t Table,

@@ -26,10 +26,10 @@ impl Held {
     pub(crate) fn play(self, heap: Global, question: &Line) -> Result<(Held, String), AllocError> {
         let numbers = question.numbers();
         match question.word() {
-            "product" => self.after(heap, question, product_in(heap, numbers).map(Held::Product)),
-            "listed" => self.after(heap, question, listed_in(heap, numbers).map(Held::Listed)),
-            "turned" => self.turned().answered(heap, question),
-            _ => self.answered(heap, question),
+            "product" => self.after(heap, product_in(heap, numbers).map(Held::Product)),
+            "listed" => self.after(heap, listed_in(heap, numbers).map(Held::Listed)),
+            "turned" => self.turned().answered(heap, Asked::Sizes),
+            _ => self.answered(heap, Asked::Question(question)),
         }
     }
 
@@ -37,11 +37,10 @@ impl Held {
     fn after(
         self,
         heap: Global,
-        question: &Line,
         made: Result<Held, Refusal>,
     ) -> Result<(Held, String), AllocError> {
         match made {
-            Ok(held) => held.answered(heap, question),
+            Ok(held) => held.answered(heap, Asked::Sizes),
             Err(Refusal::NoMemory) => Err(AllocError),
             Err(refusal) => Ok((self, format!(in heap; "{}", Refused(refusal))?)),
         }
@@ -58,30 +57,46 @@ impl Held {
     /// The code, and its answer.
     // Kept: an arm for each code, all with the one generic call. A function that lends the code to a closure would take an
     // `FnOnce(&dyn Code) -> R`, and the check cannot state an item with such a bound.
-    fn answered(self, heap: Global, question: &Line) -> Result<(Held, String), AllocError> {
+    fn answered(self, heap: Global, asked: Asked) -> Result<(Held, String), AllocError> {
         let answer = match &self {
-            Held::Nothing if question.word() == "turned" => String::from_str(heap, "nothing"),
-            Held::Nothing => format!(in heap; "{}", Found(None)),
-            Held::Product(code) => answer_of(heap, code, question),
-            Held::TurnedProduct(code) => answer_of(heap, code, question),
-            Held::Listed(code) => answer_of(heap, code, question),
-            Held::TurnedListed(code) => answer_of(heap, code, question),
+            Held::Nothing => asked.answer_of_nothing(heap),
+            Held::Product(code) => asked.answer_of(heap, code),
+            Held::TurnedProduct(code) => asked.answer_of(heap, code),
+            Held::Listed(code) => asked.answer_of(heap, code),
+            Held::TurnedListed(code) => asked.answer_of(heap, code),
         };
         Ok((self, answer?))
     }
 }
 
-/// The answer of a code: its sizes where it was just made, and what it answers to a question.
-fn answer_of<C: Code>(heap: Global, code: &C, question: &Line) -> Result<String, AllocError> {
-    if let "product" | "listed" | "turned" = question.word() {
-        let sizes = Sizes {
-            qubits: code.qubits(),
-            checks: code.checks(),
-            generators: code.generators(),
-        };
-        return format!(in heap; "{sizes}");
+/// What a line asks of the code that is held once it was played: the sizes after a making, or a question.
+#[derive(Clone, Copy)]
+enum Asked<'q> {
+    Sizes,
+    Question(&'q Line),
+}
+
+impl Asked<'_> {
+    fn answer_of<C: Code>(self, heap: Global, code: &C) -> Result<String, AllocError> {
+        match self {
+            Asked::Sizes => {
+                let sizes = Sizes {
+                    qubits: code.qubits(),
+                    checks: code.checks(),
+                    generators: code.generators(),
+                };
+                format!(in heap; "{sizes}")
+            }
+            Asked::Question(question) => format!(in heap; "{}", Found(ask_code(code, question))),
+        }
     }
-    format!(in heap; "{}", Found(ask_code(code, question)))
+
+    fn answer_of_nothing(self, heap: Global) -> Result<String, AllocError> {
+        match self {
+            Asked::Sizes => String::from_str(heap, "nothing"),
+            Asked::Question(_) => format!(in heap; "{}", Found(None)),
+        }
+    }
 }
 
 fn ask_code<C: Code>(code: &C, question: &Line) -> Option<u16> {

@@ -1,6 +1,5 @@
 //! A trial that only peels.
 ghost use Rattle.std.specs.Prelude.{◌≡◌};
-ghost use Rattle.trial.specs.Tallied.{tally_of};
 ghost use Rattle.decoding.specs.Peeling.{decided, Decides, TrueAfter};
 
 use code::Code;
@@ -8,7 +7,7 @@ use rules::answers::Verdict;
 use std::alloc::Global;
 use table::Table;
 use terms::refusal::Refusal;
-use trial::slip::Slip;
+use trial::report::Report;
 use trial::tally::Tally;
 use trial::trial::Trial;
 use trial::trial::opening::Opened;
@@ -18,16 +17,15 @@ use trial::trial::opening::Opened;
 pub fn decode_by_peeling<C: Code>(
     heap: Global,
     code: &C,
-    lost: &[u16],
-    odd: &[u16],
+    report: Report<'_>,
     checks: &[u16],
     tally: &mut Tally,
 ) -> Result<Verdict, Refusal>
-    ensures does { Decides result (tally_of tally.old) (tally_of tally.new) (decided (C.meaning code.now) (tally_of tally.old) lost.now odd.now checks.now) }
-    ensures truth { TrueAfter (C.meaning code.now) (tally_of tally.old) lost.now odd.now checks.now result }
+    ensures does { Decides result tally.old.counts tally.new.counts (decided (C.meaning code.now) tally.old.counts report.entry.lost.now report.entry.odd.now checks.now) }
+    ensures truth { TrueAfter (C.meaning code.now) tally.old.counts report.entry.lost.now report.entry.odd.now checks.now result }
 {
     let table = Table::of(heap, code)?;
-    let Opened { mut trial, slip } = Trial::open(heap, &table, lost, odd, tally)?;
+    let Opened { mut trial, slip } = Trial::open(heap, &table, report, tally)?;
     for c in checks {
         let _ = trial.peel(&slip, *c);
     }

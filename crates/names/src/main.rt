@@ -4,6 +4,7 @@
 
 use anyhow::anyhow;
 use naming::texts::{names, places_in, refusal_line};
+use product::seed::Seed;
 use std::alloc::Global;
 use std::env;
 use std::env::Args;
@@ -29,7 +30,12 @@ fn list(heap: Global, arguments: Args) -> Result<String, Refusal> {
     let [rows, columns, ..] = numbers.as_slice() else {
         return Err(Refusal::WrongEnd);
     };
-    names(heap, *rows, *columns, places.as_slice())
+    let seed = Seed {
+        rows: *rows,
+        columns: *columns,
+        ones: places.as_slice(),
+    };
+    names(heap, seed)
 }
 
 /// The arguments after the program's name, if each is a number.

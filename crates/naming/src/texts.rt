@@ -2,7 +2,7 @@
 ghost use Rattle.std.specs.Prelude.{◌≡◌, ◌*◌, ◌<◌, ◌≤◌, length, map, IfOk, string_bytes, Some};
 ghost use Rattle.terms.specs.Answering.{AnswersIfMemory};
 ghost use Rattle.meaning.specs.Product.{product_told};
-ghost use Rattle.product.specs.Seed.{seed_fault, seed_of};
+ghost use Rattle.product.specs.Seed.{fault_of, matrix_of};
 ghost use Rattle.naming.specs.Texts.{names_text, refusal_text, place_of, places_of, count_fault};
 
 use crate::kind::Kind;
@@ -10,6 +10,7 @@ use crate::lines::{Qubits, Rows};
 use code::Code;
 use product::place::Place;
 use product::product::Product;
+use product::seed::Seed;
 use std::alloc::{AllocError, Global};
 use std::fmt;
 use terms::refusal::Refusal;
@@ -22,60 +23,59 @@ pub fn refusal_line(heap: Global, refusal: Refusal) -> Result<String, AllocError
 }
 
 /// The list of names of the product code of a seed.
-pub fn names(heap: Global, rows: u16, columns: u16, places: &[Place]) -> Result<String, Refusal>
-    ensures { AnswersIfMemory result (seed_fault rows columns places.now) (λ s. string_bytes s ≡ names_text rows columns (product_told rows columns (seed_of rows columns places.now))) }
+pub fn names(heap: Global, seed: Seed) -> Result<String, Refusal>
+    ensures { AnswersIfMemory result (fault_of seed.entry) (λ s. string_bytes s ≡ names_text seed.entry.rows seed.entry.columns (product_told seed.entry.rows seed.entry.columns (matrix_of seed.entry))) }
 {
-    let product = Product::new(rows, columns, places)?;
+    let product = Product::new(seed)?;
     let grid = Grid {
         code: &product,
-        rows,
-        columns,
+        seed,
     };
     Ok(format!(in heap; "{grid}")?)
 }
 
-/// All names of a code over a grid of the given sizes.
+/// All names of a code over the grid of a seed.
 #[derive(Drop)]
 struct Grid<'c, C: Code> {
     code: &'c C,
-    rows: u16,
-    columns: u16,
-    ghost some_rows: { 1 ≤ rows },
-    ghost few_rows: { rows ≤ 32 },
-    ghost some_columns: { 1 ≤ columns },
-    ghost few_columns: { columns ≤ 32 },
-    ghost checks: { length (C.meaning code.now).checks ≡ columns * rows },
-    ghost generators: { length (C.meaning code.now).generators ≡ rows * columns },
+    seed: Seed<'c>,
+    ghost some_rows: { 1 ≤ seed.rows },
+    ghost few_rows: { seed.rows ≤ 32 },
+    ghost some_columns: { 1 ≤ seed.columns },
+    ghost few_columns: { seed.columns ≤ 32 },
+    ghost checks: { length (C.meaning code.now).checks ≡ seed.columns * seed.rows },
+    ghost generators: { length (C.meaning code.now).generators ≡ seed.rows * seed.columns },
 }
 
 impl<C: Code> fmt::Display for Grid<'_, C> {
-    ghost output = { λ n. Some (names_text n.rows n.columns (C.Code.told n.code.now)) };
+    ghost output = { λ n. Some (names_text n.seed.rows n.seed.columns (C.Code.told n.code.now)) };
 
     fn fmt<W: fmt::Write>(&self, f: &mut fmt::Formatter<W>) -> fmt::Result {
-        let pairs = self.columns * self.columns;
-        let checks = self.columns * self.rows;
-        let generators = self.rows * self.columns;
-        let qubits = pairs + self.rows * self.rows;
+        let Seed { rows, columns, .. } = self.seed;
+        let pairs = columns * columns;
+        let checks = columns * rows;
+        let generators = rows * columns;
+        let qubits = pairs + rows * rows;
         let front = Qubits {
             letter: "b",
             first: 0,
-            width: self.columns,
+            width: columns,
         };
         let back = Qubits {
             letter: "a",
             first: pairs,
-            width: self.rows,
+            width: rows,
         };
         let check_rows = Rows {
             code: self.code,
             kind: Kind::Checks,
-            line: self.rows,
+            line: rows,
             count: checks,
         };
         let generator_rows = Rows {
             code: self.code,
             kind: Kind::Generators,
-            line: self.columns,
+            line: columns,
             count: generators,
         };
         write!(f, "{front}{back}{check_rows}{generator_rows}")?;

@@ -13,6 +13,7 @@ use crate::numbers::{Numbers, shortened};
 use listed::Listed;
 use product::place::Place;
 use product::product::Product;
+use product::seed::Seed;
 use rows::Rows;
 use std::alloc::{AllocError, Global};
 use terms::refusal::Refusal;
@@ -25,7 +26,11 @@ pub fn product_in(heap: Global, numbers: &[u32]) -> Result<Product, Refusal>
     let rows = rest.short();
     let columns = rest.short();
     let places = places_of(heap, rest.pairs())?;
-    Product::new(rows, columns, places.as_slice())
+    Product::new(Seed {
+        rows,
+        columns,
+        ones: places.as_slice(),
+    })
 }
 
 fn places_of(heap: Global, pairs: &[[u32; 2]]) -> Result<Vec<Place>, AllocError>

@@ -1,13 +1,15 @@
 -- Seeds as they are given: one more place of the list, and what the matrix has.
-use Rattle.std.proofs.Common.{◌≡◌, ℕ, zero, suc, ◌+◌, ◌<◌, ◌≤◌, Bool, true, false, cond, ◌&&◌, ◌||◌, eqb, ltb, leb, ◌⊎◌, List, [], ◌∷◌, ◌++◌, length, get_or, take, set, replicate, Some, None, sym, refl, ap, ◌∙◌, inl, inr, arith, get_or-set_other, get_or-set_same, ltb-false, eqb-true, leb-false}
+use Rattle.std.proofs.Common.{◌≡◌, ℕ, zero, suc, ◌+◌, ◌<◌, ◌≤◌, Bool, true, false, ◌&&◌, ◌||◌, eqb, ltb, leb, ◌⊎◌, List, [], ◌∷◌, ◌++◌, length, get_or, take, set, replicate, None, sym, refl, ap, ◌∙◌, inl, inr, arith, get_or-set_other, get_or-set_same, ltb-false, eqb-true, leb-false}
 use mathlib.Core.Bool.{false≢true}
 use borrow.Author.Tests.{eqb-false, lt-leb}
 use Rattle.std.proofs.lemmas.List.{take_more}
 use Rattle.std.proofs.lemmas.Bool.{cases_Bool, and_parts, or_cases, or_parts, or_from}
 use Rattle.sets.specs.Sets.{has}
 use Rattle.product.specs.declared.place.Place.{Place}
-use Rattle.terms.specs.declared.refusal.Refusal.TheVariants.{OutsideLimits, NotRising}
-use Rattle.product.specs.Seed.{size_outside, outside, some_outside, rising_from, seed_fault, marked}
+use Rattle.product.specs.declared.seed.Seed.{Seed}
+use Rattle.terms.specs.declared.refusal.Refusal.TheVariants.{OutsideLimits}
+use Rattle.terms.proofs.Answering.{test_fails}
+use Rattle.product.specs.Seed.{size_outside, outside, some_outside, fault_of, marked}
 use Rattle.product.specs.Words.{ones, one_at}
 use Rattle.product.proofs.Digits.{ones_none}
 
@@ -76,25 +78,17 @@ marked_inside r n (p ∷ l) e a b m = go (or_cases (eqb a p.row && eqb b p.colum
 pub size_inside : (k : ℕ) → size_outside k ≡ false → (1 ≤ k) × (k ≤ 32)
 size_inside k e = let o = or_parts (ltb k 1) (ltb 32 k) e in (ltb-false k 1 o.0, ltb-false 32 k o.1)
 
-pub seed_taken : (r n : ℕ) (l : List Place) → size_outside r ≡ false → size_outside n ≡ false → some_outside r n l ≡ false → rising_from None l ≡ true → seed_fault r n l ≡ None
-seed_taken r n l p q o e =
-    ap (λ t. cond t (Some OutsideLimits) (cond (rising_from None l) None (Some NotRising))) (or_from (size_outside r) (size_outside n || some_outside r n l) p (or_from (size_outside n) (some_outside r n l) q o))
-    ∙ ap (λ t. cond t None (Some NotRising)) e
+-- a seed that is not refused
+pub record Taken (s : Seed) : Type 0 where
+  pub rows : (1 ≤ s.rows) × (s.rows ≤ 32)
+  pub columns : (1 ≤ s.columns) × (s.columns ≤ 32)
+  pub inside : some_outside s.rows s.columns s.ones.now ≡ false
 
--- the other way round
-pub record Taken (r n : ℕ) : Type 0 where
-  pub rows : (1 ≤ r) × (r ≤ 32)
-  pub columns : (1 ≤ n) × (n ≤ 32)
-
-pub taken_sizes : (r n : ℕ) (l : List Place) → seed_fault r n l ≡ None → Taken r n
-taken_sizes r n l e = go (cases_Bool (size_outside r || (size_outside n || some_outside r n l)))
-  where
-    go : ((size_outside r || (size_outside n || some_outside r n l)) ≡ true) ⊎ ((size_outside r || (size_outside n || some_outside r n l)) ≡ false) → Taken r n
-    go (inl t) =
-        let f : Some OutsideLimits ≡ None = ap (λ b. cond b (Some OutsideLimits) (cond (rising_from None l) None (Some NotRising))) (sym t) ∙ e in
-        let z : ◌≡◌ {A = ℕ} 0 1 = cc in
-        absurd (omega arith)
-    go (inr t) =
-        let o = or_parts (size_outside r) (size_outside n || some_outside r n l) t in
-        let q = or_parts (size_outside n) (some_outside r n l) o.1 in
-        record { rows = size_inside r o.0; columns = size_inside n q.0 }
+pub taken : (s : Seed) → fault_of s ≡ None → Taken s
+taken s e =
+    let r = size_outside s.rows in
+    let n = size_outside s.columns in
+    let o = some_outside s.rows s.columns s.ones.now in
+    let sizes = or_parts r (n || o) (test_fails (r || (n || o)) OutsideLimits _ e).0 in
+    let rest = or_parts n o sizes.1 in
+    record { rows = size_inside s.rows sizes.0; columns = size_inside s.columns rest.0; inside = rest.1 }

@@ -4,6 +4,7 @@ use Rattle.std.specs.List.{range_with_len, list_any}
 use Rattle.terms.specs.declared.refusal.Refusal.{Refusal}
 use Rattle.terms.specs.declared.refusal.Refusal.TheVariants.{OutsideLimits, NotRising}
 use Rattle.product.specs.declared.place.Place.{Place}
+use Rattle.product.specs.declared.seed.Seed.{Seed}
 
 -- whether a number of rows or of columns is outside 1 to 32
 abbrev pub size_outside : ℕ → Bool
@@ -45,3 +46,10 @@ matrix r n f = map (λ a. map (λ b. f a b) (range_with_len 0 n)) (range_with_le
 -- the seed with ones at the listed places
 abbrev pub seed_of : ℕ → ℕ → List Place → List (List Bool)
 seed_of r n places = matrix r n (λ a b. marked a b places)
+
+-- the same two of a seed as a call is given it
+abbrev pub fault_of : Seed → Option Refusal
+fault_of s = seed_fault s.rows s.columns s.ones.now
+
+abbrev pub matrix_of : Seed → List (List Bool)
+matrix_of s = seed_of s.rows s.columns s.ones.now

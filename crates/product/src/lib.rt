@@ -4,3 +4,4 @@
 mod part;
 pub mod place;
 pub mod product;
+pub mod seed;

@@ -5,18 +5,19 @@ ghost use Rattle.std.specs.Prelude.{◌≡◌};
 ghost use Rattle.terms.specs.Answering.{AnswersIfMemory};
 ghost use Rattle.meaning.specs.Meaning.{qubits};
 ghost use Rattle.meaning.specs.Product.{product_code};
-ghost use Rattle.product.specs.Seed.{seed_fault, seed_of};
+ghost use Rattle.product.specs.Seed.{fault_of, matrix_of};
 ghost use Rattle.table_export.specs.Seeds.{Tells};
 
 use product::place::Place;
 use product::product::Product;
+use product::seed::Seed;
 use std::alloc::Global;
 use table::Table;
 use terms::refusal::Refusal;
 
 /// How many qubits the product code of a seed has, by its table; 0 for a seed that is refused or for want of memory.
 /// The table is made `times` times, and once at least.
-// Kept: 0 in place of a refusal, for C has no `Result`.
+// Kept: the seed by its parts, as the C interface has it, and 0 in place of a refusal, for C has no `Result`.
 #[unsafe(no_mangle)]
 pub extern "C" fn tables_of_product(
     heap: Global,
@@ -27,20 +28,19 @@ pub extern "C" fn tables_of_product(
 ) -> u16
     ensures { Tells rows columns ones.now result }
 {
-    counted(heap, rows, columns, ones, times).unwrap_or(0)
+    let seed = Seed {
+        rows,
+        columns,
+        ones,
+    };
+    counted(heap, seed, times).unwrap_or(0)
 }
 
 /// The same, with the refusal.
-fn counted(
-    heap: Global,
-    rows: u16,
-    columns: u16,
-    ones: &[Place],
-    times: u16,
-) -> Result<u16, Refusal>
-    ensures { AnswersIfMemory result (seed_fault rows columns ones.now) (λ n. n ≡ qubits (product_code rows columns (seed_of rows columns ones.now))) }
+fn counted(heap: Global, seed: Seed, times: u16) -> Result<u16, Refusal>
+    ensures { AnswersIfMemory result (fault_of seed.entry) (λ n. n ≡ qubits (product_code seed.entry.rows seed.entry.columns (matrix_of seed.entry))) }
 {
-    let code = Product::new(rows, columns, ones)?;
+    let code = Product::new(seed)?;
     for _ in 1..times {
         let _ = Table::of(heap, &code);
     }

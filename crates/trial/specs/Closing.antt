@@ -9,11 +9,10 @@ use Rattle.rules.specs.CallLists.{Call, after}
 use Rattle.rules.specs.Law.{TrueOf}
 use Rattle.trial.specs.declared.tally.Tally.{Tally}
 use Rattle.trial.specs.declared.trial.closing.NotClosed.{NotClosed}
-use Rattle.trial.specs.Tallied.{tally_of}
 
 abbrev pub closed_of : Result Verdict NotClosed → Tally → rules.Closed
-closed_of (Ok v) t = record { answer = Ok v; tally = tally_of t; slip = None }
-closed_of (Err n) t = record { answer = Err n.refusal; tally = tally_of t; slip = Some n.slip.number }
+closed_of (Ok v) t = record { answer = Ok v; tally = t.counts; slip = None }
+closed_of (Err n) t = record { answer = Err n.refusal; tally = t.counts; slip = Some n.slip.number }
 
 -- the code M; the trial s as it is closed: whatever opening on M, and whatever calls after it, refused or not, led to s,
 -- the answer is true of the report that was opened on

@@ -1,5 +1,6 @@
 pub mod Tallied
-pub mod Model
+pub mod Standing
+pub mod Seen
 pub mod Opening
 pub mod Closing
 pub mod Viewed

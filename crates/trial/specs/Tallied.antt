@@ -1,15 +1,17 @@
--- A tally as the rules have it, and its balance.
-use Rattle.std.specs.Prelude.{◌≡◌, ◌+◌, List, length}
+-- A tally as the rules have it, and what is true of every tally.
+use Rattle.std.specs.Prelude.{◌≡◌, ◌+◌, ◌≤◌, List, length}
 use Rattle.rules.specs.Books.{new_books, Event, kept}
 use Rattle.rules.specs.Tallies as rules
 use Rattle.trial.specs.declared.tally.Counts.{Counts}
-use Rattle.trial.specs.declared.tally.Tally.{Tally}
 
 abbrev pub counts_of : Counts → rules.Tally
 counts_of c = record { opened = c.opened; solved = c.solved; nothing = c.nothing; unfinished = c.unfinished }
 
-abbrev pub tally_of : Tally → rules.Tally
-tally_of t = counts_of t.counts
+-- a tally as its callers see it: its counts, of which at most 1,000,000 were opened, and no more were closed
+pub record Tallied : Type 0 where
+  pub counts : rules.Tally
+  pub few : counts.opened ≤ 1000000
+  pub balanced : rules.closings counts ≤ counts.opened
 
 -- whatever openings and closes led from a new tally to this one: what was opened is what was closed and the slips that are out
 abbrev pub Balances : rules.Tally → Type 0

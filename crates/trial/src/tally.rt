@@ -1,6 +1,8 @@
 //! The tally: how many trials were opened, and how they were closed.
 ghost use Rattle.std.specs.Prelude.{◌+◌, ◌≤◌};
 
+use std::marker::Model;
+
 mod calls;
 mod reading;
 
@@ -19,4 +21,13 @@ pub struct Tally {
     counts: Counts,
     ghost few: { counts.opened ≤ 1000000 },
     ghost balanced: { counts.solved + counts.nothing + counts.unfinished ≤ counts.opened },
+}
+
+impl Model for Tally {
+    ghost use Rattle.trial.specs.Tallied.{counts_of, Tallied};
+
+    // the counts as the rules have them, and what is true of every tally
+    ghost Value = { Tallied };
+
+    ghost view = { λ t. record { counts = counts_of t.counts; few = t.few; balanced = t.balanced } };
 }

@@ -1,13 +1,9 @@
 //! A trial.
-ghost use Rattle.std.specs.Prelude.{◌≡◌, ◌+◌, ◌≤◌, length};
-ghost use Rattle.sets.specs.Sets.{size};
-ghost use Rattle.meaning.specs.Meaning.{qubits};
 ghost use Rattle.table.specs.OfTable.{meaning_of};
-ghost use Rattle.upkeep.specs.Counts.{counts_in};
-ghost use Rattle.upkeep.specs.Statuses.{erased_of, shelved_of};
+ghost use Rattle.trial.specs.Standing.{Sized, state_of};
 
-use rules::answers::Status;
-use table::Table;
+use crate::trial::erasing::Erasures;
+use std::marker::Model;
 
 pub mod closing;
 mod erasing;
@@ -21,22 +17,25 @@ pub mod viewing;
 // Kept: one list for each, since `View`'s public fields lend each as a slice, and the sets of the rules are read off them one by one.
 #[derive(Drop)]
 pub struct Trial<'t> {
-    table: &'t Table,
-    status: Vec<Status>,
+    erasures: Erasures<'t>,
     flipped: Vec<bool>,
     closed: Vec<bool>,
     odd: Vec<bool>,
-    /// For each check, how many erased qubits it holds, so that a dangling check is found without reading its row.
-    held: Vec<u16>,
     void: bool,
     number: u32,
     peeled: u16,
     pruned: u16,
     chosen: u16,
-    ghost status_fit: { length status.items ≡ qubits (meaning_of table.now) },
-    ghost flipped_fit: { length flipped.items ≡ qubits (meaning_of table.now) },
-    ghost closed_fit: { length closed.items ≡ length (meaning_of table.now).checks },
-    ghost odd_fit: { length odd.items ≡ length (meaning_of table.now).checks },
-    ghost counts_fit: { held.items ≡ counts_in (meaning_of table.now).checks (erased_of status.items) },
-    ghost few: { peeled + pruned + chosen + size (erased_of status.items) + size (shelved_of status.items) ≤ qubits (meaning_of table.now) },
+    ghost sized: { Sized (meaning_of erasures.table.now) (state_of erasures.status.items flipped.items closed.items odd.items void number peeled pruned chosen) },
+}
+
+impl<'t> Model for Trial<'t> {
+    ghost use Rattle.trial.specs.Standing.{Standing};
+
+    // the table, the state as the rules have it, and what is true of every trial
+    ghost Value = { Standing };
+
+    ghost use Rattle.trial.specs.Seen.{standing_of};
+
+    ghost view = { standing_of };
 }

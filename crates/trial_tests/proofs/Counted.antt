@@ -1,5 +1,6 @@
 -- What a close and an opening do to the count of slips that are out, and that the calls on a trial keep its number.
-use Rattle.std.proofs.Common.{◌≡◌, ℕ, ◌+◌, ◌-◌, ◌<◌, Bool, true, false, cond, not, eqb, List, Some, Ok, Err, Result, sym, refl, ap, ◌∙◌, arith, eqb-true, eq-eqb}
+use Rattle.std.proofs.Common.{◌≡◌, ℕ, ◌+◌, ◌-◌, ◌<◌, Bool, true, false, cond, not, eqb, List, Some, Ok, Err, Option, Result, get_or, set, sym, refl, ap, ◌∙◌, subst, arith, eqb-true, eq-eqb}
+use Rattle.std.proofs.Math.Seq.{map-set_same}
 use Rattle.std.proofs.lemmas.Bool.{eqb-false}
 use Rattle.terms.specs.declared.refusal.Refusal.{Refusal}
 use Rattle.terms.specs.declared.refusal.Refusal.TheVariants.{WrongSlip}
@@ -14,15 +15,14 @@ use Rattle.rules.specs.Tallies as rules
 use Rattle.rules.specs.Companions.{Kept}
 use Rattle.rules.proofs.Bars.{guarded, accepted, passed, not_ok}
 use Rattle.rules.proofs.Refused.{refusals_keep}
+use Rattle.trial.specs.declared.slip.Slip.{Slip}
 use Rattle.trial.specs.declared.tally.Tally.{Tally}
 use Rattle.trial.specs.declared.trial.Trial.{Trial}
 use Rattle.trial.specs.declared.trial.closing.NotClosed.{NotClosed}
 use Rattle.trial.specs.declared.trial.opening.Opened.{Opened}
 use Rattle.trial.specs.Closing.{closed_of}
-use Rattle.trial.specs.Model.{model}
 use Rattle.trial.specs.Opening.{OpensAs, Opens, opened_of}
-use Rattle.trial.specs.Tallied.{tally_of}
-use Rattle.trial_tests.specs.Slips.{out, OpensOne}
+use Rattle.trial_tests.specs.Slips.{out, trial_numbers, Own, OpensOne}
 
 -- one more is closed
 one_closed : (o : Outcome) (t : rules.Tally) → (rules.closings (rules.counted o t) ≡ rules.closings t + 1) × ((rules.counted o t).opened ≡ t.opened)
@@ -32,18 +32,18 @@ one_closed Unfinished t = (omega arith, refl)
 
 module _ (s : State) (n : ℕ) (t u : Tally) where
   abbrev after : Result Verdict Refusal × rules.Tally
-  after = (Ok (rules.verdict s), rules.counted (rules.outcome s) (tally_of t))
+  after = (Ok (rules.verdict s), rules.counted (rules.outcome s) t.counts)
 
   -- an accepted close counts one slip less out
-  pub closes_one : (v : Verdict) → closed_of (Ok v) u ≡ rules.close s n (tally_of t) → out u + 1 ≡ out t
+  pub closes_one : (v : Verdict) → closed_of (Ok v) u ≡ rules.close s n t.counts → out u + 1 ≡ out t
   closes_one v e =
-      let bars = rules.close_bars s n (tally_of t) in
-      let c = accepted bars (tally_of t) after v (sym (ap (λ (x : rules.Closed). x.answer) e)) in
-      let p : tally_of u ≡ rules.counted (rules.outcome s) (tally_of t) = ap (λ (x : rules.Closed). x.tally) e ∙ ap (λ (r : Result Verdict Refusal × rules.Tally). r.1) (passed bars (tally_of t) after c) in
-      let o = one_closed (rules.outcome s) (tally_of t) in
-      let a : rules.closings (tally_of u) ≡ rules.closings (tally_of t) + 1 = ap rules.closings p ∙ o.0 in
+      let bars = rules.close_bars s n t.counts in
+      let c = accepted bars t.counts after v (sym (ap (λ (x : rules.Closed). x.answer) e)) in
+      let p : u.counts ≡ rules.counted (rules.outcome s) t.counts = ap (λ (x : rules.Closed). x.tally) e ∙ ap (λ (r : Result Verdict Refusal × rules.Tally). r.1) (passed bars t.counts after c) in
+      let o = one_closed (rules.outcome s) t.counts in
+      let a : rules.closings u.counts ≡ rules.closings t.counts + 1 = ap rules.closings p ∙ o.0 in
       let b : t.counts.opened ≡ u.counts.opened = sym (ap (λ (x : rules.Tally). x.opened) p ∙ o.1) in
-      let ne : (t.counts.opened ≡ rules.closings (tally_of t)) → ⊥ = eqb-false t.counts.opened (rules.closings (tally_of t)) c.1.0 in
+      let ne : (t.counts.opened ≡ rules.closings t.counts) → ⊥ = eqb-false t.counts.opened (rules.closings t.counts) c.1.0 in
       omega (arith, t.balanced, u.balanced)
 
   -- a refused one gives the slip back and counts as before; it is refused only for its number, or if none is out
@@ -52,11 +52,11 @@ module _ (s : State) (n : ℕ) (t u : Tally) where
     pub count : out u ≡ out t
     pub why : n ≡ s.number → 0 < out t → ⊥
 
-  pub refuses : (e : NotClosed) → closed_of (Err e) u ≡ rules.close s n (tally_of t) → Refuses e
-  refuses e h = go (not (eqb n s.number)) (eqb t.counts.opened (rules.closings (tally_of t))) refl refl h
+  pub refuses : (e : NotClosed) → closed_of (Err e) u ≡ rules.close s n t.counts → Refuses e
+  refuses e h = go (not (eqb n s.number)) (eqb t.counts.opened (rules.closings t.counts)) refl refl h
     where
-      go : (a b : Bool) → not (eqb n s.number) ≡ a → eqb t.counts.opened (rules.closings (tally_of t)) ≡ b
-          → closed_of (Err e) u ≡ (let r : Result Verdict Refusal × rules.Tally = cond a (Err WrongSlip, tally_of t) (cond b (Err WrongSlip, tally_of t) after) in record { answer = r.0; tally = r.1; slip = rules.given_back r.0 n })
+      go : (a b : Bool) → not (eqb n s.number) ≡ a → eqb t.counts.opened (rules.closings t.counts) ≡ b
+          → closed_of (Err e) u ≡ (let r : Result Verdict Refusal × rules.Tally = cond a (Err WrongSlip, t.counts) (cond b (Err WrongSlip, t.counts) after) in record { answer = r.0; tally = r.1; slip = rules.given_back r.0 n })
           → Refuses e
       go true b ea eb x =
           let i : Some e.slip.number ≡ Some n = ap (λ (y : rules.Closed). y.slip) x in
@@ -70,13 +70,13 @@ module _ (s : State) (n : ℕ) (t u : Tally) where
           record {
             back = cc;
             count = ap (λ (y : rules.Closed). y.tally.opened - rules.closings y.tally) x;
-            why = λ h k. let y : t.counts.opened ≡ rules.closings (tally_of t) = eqb-true t.counts.opened (rules.closings (tally_of t)) eb in absurd (omega arith);
+            why = λ h k. let y : t.counts.opened ≡ rules.closings t.counts = eqb-true t.counts.opened (rules.closings t.counts) eb in absurd (omega arith);
           }
       go false false ea eb x = not_ok e.refusal (rules.verdict s) (ap (λ (y : rules.Closed). y.answer) x)
 
 module _ (M : Meaning) (t u : Tally) (lost odds : List ℕ) where
   abbrev rule : Result rules.Opened Refusal × rules.Tally
-  rule = rules.open_trial M (tally_of t) lost odds
+  rule = rules.open_trial M t.counts lost odds
 
   abbrev given : rules.Opened
   given = record { trial = opening M (report M lost odds) (t.counts.opened + 1); slip = t.counts.opened + 1 }
@@ -85,30 +85,31 @@ module _ (M : Meaning) (t u : Tally) (lost odds : List ℕ) where
   slip_of d (Ok o) = o.slip
   slip_of d (Err e) = d.slip
 
-  pub opens_one : (r : Result Opened Refusal) → Opens r (tally_of t) (tally_of u) (rules.open_trial M (tally_of t) lost odds) → OpensOne r (out t) (out u)
-  unfolding model
+  pub opens_one : (r : Result Opened Refusal) → Opens r t.counts u.counts (rules.open_trial M t.counts lost odds) → OpensOne r (out t) (out u)
   opens_one (Ok o) h =
-      let bars = rules.open_bars M (tally_of t) lost odds in
-      let p = passed bars (tally_of t) (Ok given, rules.one_more (tally_of t)) (accepted bars (tally_of t) (Ok given, rules.one_more (tally_of t)) (opened_of o) (sym h.0)) in
+      let bars = rules.open_bars M t.counts lost odds in
+      let p = passed bars t.counts (Ok given, rules.one_more t.counts) (accepted bars t.counts (Ok given, rules.one_more t.counts) (opened_of o) (sym h.0)) in
       let same : ◌≡◌ {A = Result rules.Opened Refusal} (Ok (opened_of o)) (Ok given) = h.0 ∙ ap (λ (r : Result rules.Opened Refusal × rules.Tally). r.0) p in
       let is : opened_of o ≡ given = cc in
-      let q : tally_of u ≡ rules.one_more (tally_of t) = h.1 ∙ ap (λ (r : Result rules.Opened Refusal × rules.Tally). r.1) p in
-      let a : rules.closings (tally_of u) ≡ rules.closings (tally_of t) = ap rules.closings q in
+      let q : u.counts ≡ rules.one_more t.counts = h.1 ∙ ap (λ (r : Result rules.Opened Refusal × rules.Tally). r.1) p in
+      let a : rules.closings u.counts ≡ rules.closings t.counts = ap rules.closings q in
       let b : u.counts.opened ≡ t.counts.opened + 1 = ap (λ (x : rules.Tally). x.opened) q in
       (omega (arith, t.balanced, u.balanced), ap (λ (x : rules.Opened). x.slip) is ∙ sym (ap (λ (x : rules.Opened). x.trial.number) is))
-  opens_one (Err e) h = go rule.0 rule.1 ((refusals_keep M given.trial).open_kept (tally_of t) lost odds) h
+  opens_one (Err e) h = go rule.0 rule.1 ((refusals_keep M given.trial).open_kept t.counts lost odds) h
     where
-      go : (told : Result rules.Opened Refusal) (later : rules.Tally) → Kept (tally_of t) (told, later) → OpensAs (Err e) (tally_of t) (tally_of u) told later → out u ≡ out t
+      go : (told : Result rules.Opened Refusal) (later : rules.Tally) → Kept t.counts (told, later) → OpensAs (Err e) t.counts u.counts told later → out u ≡ out t
       go (Err f) later keep x = ap (λ (y : rules.Tally). y.opened - rules.closings y) (x.1 ∙ keep)
       go (Ok o) later keep x = ap (λ (y : rules.Tally). y.opened - rules.closings y) x.1
 
 -- the calls on a trial keep its number
-pub peel_number : (M : Meaning) (t u : Trial) (slip c : ℕ) (r : Result ℕ Refusal) → ◌≡◌ {A = Result ℕ Refusal × State} (r, model u) (peel M (model t) slip c) → u.number ≡ t.number
-unfolding model
+pub peel_number : (M : Meaning) (t u : Trial) (slip c : ℕ) (r : Result ℕ Refusal) → ◌≡◌ {A = Result ℕ Refusal × State} (r, u.state) (peel M t.state slip c) → u.state.number ≡ t.state.number
 peel_number M t u slip c r e =
-    ap (λ (x : Result ℕ Refusal × State). x.1.number) e ∙ guarded (peel_bars M (model t) slip c) (model t) _ (λ (x : State). x.number ≡ t.number) refl (λ _. refl)
+    ap (λ (x : Result ℕ Refusal × State). x.1.number) e ∙ guarded (peel_bars M t.state slip c) t.state _ (λ (x : State). x.number ≡ t.state.number) refl (λ _. refl)
 
-pub prune_number : (M : Meaning) (t u : Trial) (slip q : ℕ) (l : List ℕ) (r : Result (Unit {0}) Refusal) → ◌≡◌ {A = Result (Unit {0}) Refusal × State} (r, model u) (prune M (model t) slip q l) → u.number ≡ t.number
-unfolding model
+pub prune_number : (M : Meaning) (t u : Trial) (slip q : ℕ) (l : List ℕ) (r : Result (Unit {0}) Refusal) → ◌≡◌ {A = Result (Unit {0}) Refusal × State} (r, u.state) (prune M t.state slip q l) → u.state.number ≡ t.state.number
 prune_number M t u slip q l r e =
-    ap (λ (x : Result (Unit {0}) Refusal × State). x.1.number) e ∙ guarded (prune_bars M (model t) slip q l) (model t) _ (λ (x : State). x.number ≡ t.number) refl (λ _. refl)
+    ap (λ (x : Result (Unit {0}) Refusal × State). x.1.number) e ∙ guarded (prune_bars M t.state slip q l) t.state _ (λ (x : State). x.number ≡ t.state.number) refl (λ _. refl)
+
+-- and another trial of the same number leaves each slip the number at its place
+pub own_after : (slips : List (Option Slip)) (l : List Trial) (k : ℕ) (u d : Trial) → u.state.number ≡ (get_or l k d).state.number → Own slips (trial_numbers l) → Own slips (trial_numbers (set l k u))
+own_after slips l k u d e own = subst (Own slips) (sym (map-set_same (λ (x : Trial). x.state.number) l k u d e)) own

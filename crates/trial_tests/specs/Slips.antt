@@ -22,7 +22,7 @@ abbrev pub held : List (Option Slip) → ℕ
 held l = sum_by held_by l
 
 abbrev pub trial_numbers : List Trial → List ℕ
-trial_numbers l = map (λ t. t.number) l
+trial_numbers l = map (λ t. t.state.number) l
 
 -- each slip has the number at its place
 abbrev pub Own : List (Option Slip) → List ℕ → Type 0
@@ -30,5 +30,5 @@ Own slips numbers = (k : ℕ) (s : Slip) → slice_index_or slips k None ≡ Som
 
 -- an opening counts one more slip out, which has the number of its trial
 abbrev pub OpensOne : Result Opened Refusal → ℕ → ℕ → Type 0
-OpensOne (Ok o) before after = (after ≡ before + 1) × (o.slip.number ≡ o.trial.number)
+OpensOne (Ok o) before after = (after ≡ before + 1) × (o.slip.number ≡ o.trial.state.number)
 OpensOne (Err e) before after = after ≡ before

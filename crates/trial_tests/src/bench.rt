@@ -1,28 +1,23 @@
 //! The tallies, trials and slips of a sequence, and the calls on them.
-ghost use Rattle.std.specs.Prelude.{◌≡◌, length};
-ghost use Rattle.trial_tests.specs.Slips.{outs, held, trial_numbers, Own};
+ghost use Rattle.std.specs.Prelude.{◌≡◌};
+ghost use Rattle.trial_tests.specs.Slips.{outs, held};
 
-use crate::calling::{churn_at, close_all, close_at, keep, open_at, peel, prune};
+use crate::calling::{churn_at, open_at};
 use crate::codes::Made;
 use crate::telling::{Answer, Bytes, Counted, State, Told};
+use crate::trials::Trials;
 use played::line::Line;
 use played::numbers::Numbers;
 use std::alloc::Global;
-use trial::slip::Slip;
+use trial::report::Report;
 use trial::tally::Tally;
-use trial::trial::Trial;
 
-/// Each in the order of its making. Slip k was handed out with trial k; a slip that was spent leaves its place empty.
-// Kept: trials and slips are two lists. A line may name the trial of one place and the slip of another, and a close takes the slip out of its
-// place while the trial is lent.
+/// What the calls of a sequence are on. The slips that the tallies count out are the ones that are held.
 pub(crate) struct Bench<'t> {
     codes: &'t [Made],
     tallies: Vec<Tally>,
-    trials: Vec<Trial<'t>>,
-    slips: Vec<Option<Slip>>,
-    ghost as_many: { length slips.items ≡ length trials.items },
-    ghost own: { Own slips.items (trial_numbers trials.items) },
-    ghost all_held: { outs tallies.items ≡ held slips.items },
+    trials: Trials<'t>,
+    ghost all_held: { outs tallies.items ≡ held trials.slips.items },
 }
 
 impl<'t> Bench<'t> {
@@ -30,8 +25,7 @@ impl<'t> Bench<'t> {
         Bench {
             codes,
             tallies: Vec::new(heap),
-            trials: Vec::new(heap),
-            slips: Vec::new(heap),
+            trials: Trials::new(heap),
         }
     }
 
@@ -42,8 +36,8 @@ impl<'t> Bench<'t> {
         let told = match step.word() {
             "tally" => self.new_tally()?,
             "open" => self.open(heap, &mut numbers)?,
-            "peel" => peel(&mut self.trials, self.slips.as_slice(), &mut numbers),
-            "prune" => prune(heap, &mut self.trials, self.slips.as_slice(), &mut numbers)?,
+            "peel" => self.trials.peel(&mut numbers),
+            "prune" => self.trials.prune(heap, &mut numbers)?,
             "copy_out" => self.copy_out(heap, &mut numbers)?,
             "close" => self.close(&mut numbers),
             "churn" => self.churn(heap, &mut numbers),
@@ -88,11 +82,14 @@ impl<'t> Bench<'t> {
         if place >= self.tallies.len() {
             return Ok(Told::unknown());
         }
-        self.slips.reserve(1)?;
-        self.trials.reserve(1)?;
+        self.trials.make_room()?;
         let tallies = self.tallies.as_mut_slice();
-        let answer = match open_at(heap, table, lost.as_slice(), odd.as_slice(), tallies, place) {
-            Ok(opened) => keep(opened, &mut self.trials, &mut self.slips),
+        let report = Report {
+            lost: lost.as_slice(),
+            odd: odd.as_slice(),
+        };
+        let answer = match open_at(heap, table, report, tallies, place) {
+            Ok(opened) => self.trials.keep(opened),
             Err(refusal) => Answer::Refused(refusal),
         };
         Ok(Told::of_tally(answer, place))
@@ -116,20 +113,13 @@ impl<'t> Bench<'t> {
         let place = numbers.place();
         let slip_place = numbers.place();
         let tally_place = numbers.place();
-        let Some(trial) = self.trials.get(place) else {
-            return Told::unknown();
-        };
-        if tally_place >= self.tallies.len() || slip_place >= self.slips.len() {
+        if tally_place >= self.tallies.len() {
             return Told::unknown();
         }
-        let slips = self.slips.as_mut_slice();
-        let answer = close_at(
-            trial,
-            slips,
-            slip_place,
-            self.tallies.as_mut_slice(),
-            tally_place,
-        );
+        let tallies = self.tallies.as_mut_slice();
+        let Some(answer) = self.trials.close(place, slip_place, tallies, tally_place) else {
+            return Told::unknown();
+        };
         let mut told = Told::of_trial(answer, place);
         told.tally = Some(tally_place);
         told
@@ -160,8 +150,7 @@ impl<'t> Bench<'t> {
             codes: _,
             mut tallies,
             trials,
-            slips,
         } = self;
-        close_all(trials.as_slice(), slips, tallies.as_mut_slice());
+        trials.close_rest(tallies.as_mut_slice());
     }
 }

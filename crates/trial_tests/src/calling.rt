@@ -1,127 +1,47 @@
-//! Calls on one trial.
-ghost use Rattle.std.specs.Prelude.{◌≡◌, ◌⊎◌, ℕ, ◌+◌, ◌<◌, ◌≤◌, List, length, None, nat_lt, position, slice_index_or, vec_len, vec_capacity};
-ghost use Rattle.trial_tests.specs.Slips.{out, outs, held_by, held, trial_numbers, Own, OpensOne};
+//! Calls that count on one of the tallies.
+ghost use Rattle.std.specs.Prelude.{◌≡◌, ◌⊎◌, ◌+◌, ◌<◌, length, None, nat_lt, position, slice_index_or};
+ghost use Rattle.trial_tests.specs.Slips.{out, outs, held_by, OpensOne};
 
-use crate::telling::{Answer, Told};
-use played::numbers::Numbers;
-use std::alloc::{AllocError, Global};
+use crate::telling::Answer;
+use std::alloc::Global;
 use table::Table;
 use terms::refusal::Refusal;
+use trial::report::Report;
 use trial::slip::Slip;
 use trial::tally::Tally;
 use trial::trial::Trial;
 use trial::trial::closing::NotClosed;
 use trial::trial::opening::Opened;
 
-pub(crate) fn peel(
-    trials: &mut Vec<Trial<'_>>,
-    slips: &[Option<Slip>],
-    numbers: &mut Numbers,
-) -> Told
-    ensures { trial_numbers trials.new.items ≡ trial_numbers trials.old.items }
-{
-    let place = numbers.place();
-    let Some(Some(slip)) = slips.get(numbers.place()) else {
-        return Told::unknown();
-    };
-    let Some(trial) = trials.get_mut(place) else {
-        return Told::unknown();
-    };
-    let answer = Answer::from(trial.peel(slip, numbers.short()));
-    Told::of_trial(answer, place)
-}
-
-pub(crate) fn prune(
-    heap: Global,
-    trials: &mut Vec<Trial<'_>>,
-    slips: &[Option<Slip>],
-    numbers: &mut Numbers,
-) -> Result<Told, AllocError>
-    ensures { trial_numbers trials.new.items ≡ trial_numbers trials.old.items }
-{
-    let place = numbers.place();
-    let Some(Some(slip)) = slips.get(numbers.place()) else {
-        return Ok(Told::unknown());
-    };
-    let Some(trial) = trials.get_mut(place) else {
-        return Ok(Told::unknown());
-    };
-    let qubit = numbers.short();
-    let generators = numbers.list(heap)?;
-    let answer = Answer::from(trial.prune(slip, qubit, generators.as_slice()));
-    Ok(Told::of_trial(answer, place))
-}
-
 /// Opens on one of the tallies.
-// Kept: a list and a place, here, in `close_at` and in `churn_at`. Each says what its call does to the sum over all tallies, which `Bench` knows;
-// one function with a closure would need a clause that carries what the closure says of one tally to the sum, and be called with three such.
+// Kept: a list and a place, here, in `Trials::close` and in `churn_at`. Each says what its call does to the sum over all tallies, which `Bench`
+// knows; one function with a closure would need a clause that carries what the closure says of one tally to the sum, and be called with three such.
 pub(crate) fn open_at<'t>(
     heap: Global,
     table: &'t Table,
-    lost: &[u16],
-    odd: &[u16],
+    report: Report<'_>,
     tallies: &mut [Tally],
     place: usize,
 ) -> Result<Opened<'t>, Refusal>
     requires { place < length tallies.old }
     ensures { OpensOne result (outs tallies.old) (outs tallies.new) }
 {
-    open_on(heap, table, lost, odd, &mut tallies[place])
+    open_on(heap, table, report, &mut tallies[place])
 }
 
 fn open_on<'t>(
     heap: Global,
     table: &'t Table,
-    lost: &[u16],
-    odd: &[u16],
+    report: Report<'_>,
     tally: &mut Tally,
 ) -> Result<Opened<'t>, Refusal>
     ensures { OpensOne result (out tally.old) (out tally.new) }
 {
-    Trial::open(heap, table, lost, odd, tally)
-}
-
-/// Keeps a trial and its slip, for which there is room.
-pub(crate) fn keep<'t>(
-    opened: Opened<'t>,
-    trials: &mut Vec<Trial<'t>>,
-    slips: &mut Vec<Option<Slip>>,
-) -> Answer
-    requires number { opened.slip.number ≡ opened.trial.number }
-    requires trials { vec_len trials.old < vec_capacity trials.old }
-    requires slips { vec_len slips.old < vec_capacity slips.old }
-    requires own { Own slips.old.items (trial_numbers trials.old.items) }
-    requires as_many { length slips.old.items ≡ length trials.old.items }
-    ensures as_many { length slips.new.items ≡ length trials.new.items }
-    ensures own { Own slips.new.items (trial_numbers trials.new.items) }
-    ensures count { held slips.new.items ≡ held slips.old.items + 1 }
-{
-    let Opened { trial, slip } = opened;
-    let number = slip.number();
-    slips.push_reserved(Some(slip));
-    trials.push_reserved(trial);
-    Answer::Number(number)
-}
-
-/// Closes with one of the slips, on one of the tallies.
-pub(crate) fn close_at(
-    trial: &Trial<'_>,
-    slips: &mut [Option<Slip>],
-    slip: usize,
-    tallies: &mut [Tally],
-    tally: usize,
-) -> Answer
-    requires slip { slip < length slips.old }
-    requires tally { tally < length tallies.old }
-    ensures count { outs tallies.new + held slips.old ≡ outs tallies.old + held slips.new }
-    ensures as_many { length slips.new ≡ length slips.old }
-    ensures own { (l : List ℕ) → Own slips.old l → Own slips.new l }
-{
-    close_held(trial, &mut slips[slip], &mut tallies[tally])
+    Trial::open(heap, table, report, tally)
 }
 
 /// Closes with the slip that is held; a refused close puts it back.
-fn close_held(trial: &Trial<'_>, held: &mut Option<Slip>, tally: &mut Tally) -> Answer
+pub(crate) fn close_held(trial: &Trial<'_>, held: &mut Option<Slip>, tally: &mut Tally) -> Answer
     ensures count { out tally.new + held_by held.old ≡ out tally.old + held_by held.new }
     ensures kept { (held.new ≡ None) ⊎ (held.new ≡ held.old) }
 {
@@ -137,26 +57,9 @@ fn close_held(trial: &Trial<'_>, held: &mut Option<Slip>, tally: &mut Tally) -> 
     }
 }
 
-/// Closes what is left out, the last slip first, each with its own trial.
-pub(crate) fn close_all(trials: &[Trial<'_>], slips: Vec<Option<Slip>>, tallies: &mut [Tally])
-    requires as_many { length slips.items ≤ length trials.now }
-    requires own { Own slips.items (trial_numbers trials.now) }
-    requires count { outs tallies.old ≡ held slips.items }
-{
-    let mut slips = slips;
-    match slips.pop() {
-        None => slips.destroy_empty(),
-        Some(None) => close_all(trials, slips, tallies),
-        Some(Some(slip)) => {
-            close_somewhere(&trials[slips.len()], slip, tallies);
-            close_all(trials, slips, tallies);
-        }
-    }
-}
-
 /// Closes with the trial's own slip, on the first tally that counts one out.
-fn close_somewhere(trial: &Trial<'_>, slip: Slip, tallies: &mut [Tally])
-    requires own { slip.number ≡ trial.now.number }
+pub(crate) fn close_somewhere(trial: &Trial<'_>, slip: Slip, tallies: &mut [Tally])
+    requires own { slip.number ≡ trial.now.state.number }
     requires count { 0 < outs tallies.old }
     ensures { outs tallies.new + 1 ≡ outs tallies.old }
 {
@@ -165,7 +68,7 @@ fn close_somewhere(trial: &Trial<'_>, slip: Slip, tallies: &mut [Tally])
 }
 
 fn close_own(trial: &Trial<'_>, slip: Slip, tally: &mut Tally)
-    requires own { slip.number ≡ trial.now.number }
+    requires own { slip.number ≡ trial.now.state.number }
     requires count { 0 < out tally.old }
     ensures { out tally.new + 1 ≡ out tally.old }
 {
@@ -218,8 +121,12 @@ pub(crate) fn churn_at(
 fn churn_on(heap: Global, table: &Table, tally: &mut Tally, times: u32) -> Answer
     ensures { out tally.new ≡ out tally.old }
 {
+    let nothing = Report {
+        lost: &[],
+        odd: &[],
+    };
     for _ in 0..times {
-        match open_on(heap, table, &[], &[], tally) {
+        match open_on(heap, table, nothing, tally) {
             Ok(Opened { trial, slip }) => close_own(&trial, slip, tally),
             Err(refusal) => return Answer::Refused(refusal),
         }

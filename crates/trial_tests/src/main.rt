@@ -19,6 +19,7 @@ mod calling;
 mod codes;
 mod reading;
 mod telling;
+mod trials;
 
 use bench::Bench;
 use codes::Codes;

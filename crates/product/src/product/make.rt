@@ -1,59 +1,29 @@
 //! Making a product code from a seed.
-ghost use Rattle.std.specs.Prelude.{◌≡◌, ℕ, ◌<◌, false, ◌&&◌, ◌||◌, None as Nothing, ◌==◌};
+ghost use Rattle.std.specs.Prelude.{◌≡◌, ℕ, ◌<◌, false, ◌&&◌, ◌||◌, ◌==◌};
 ghost use Rattle.terms.specs.Answering.{Answers};
-ghost use Rattle.meaning.specs.Product.{product_code, product_told};
-ghost use Rattle.product.specs.OfProduct.{meaning_of, told_of};
-ghost use Rattle.product.specs.Seed.{size_outside, outside, some_outside, after, rising_from, seed_fault, marked, seed_of};
+ghost use Rattle.product.specs.OfProduct.{ProductOf};
+ghost use Rattle.product.specs.Seed.{some_outside, marked, fault_of};
 ghost use Rattle.product.specs.Words.{one_at};
 
 use super::Product;
 use crate::place::Place;
+use crate::seed::Seed;
 use terms::refusal::Refusal;
 
 impl Product {
-    /// The product code of the seed with the given numbers of rows and columns, 1 to 32 each, and ones at the given places, which rise by row
-    /// and then by column.
-    pub fn new(rows: u16, columns: u16, places: &[Place]) -> Result<Product, Refusal>
-        ensures { Answers result (seed_fault rows columns places.now) (λ p. (meaning_of p ≡ product_code rows columns (seed_of rows columns places.now)) × (told_of p ≡ product_told rows columns (seed_of rows columns places.now))) }
+    /// The product code of a seed of 1 to 32 rows and as many columns.
+    pub fn new(seed: Seed) -> Result<Product, Refusal>
+        ensures { Answers result (fault_of seed.entry) (ProductOf seed.entry) }
     {
-        if size_outside(rows) || size_outside(columns) || some_outside(rows, columns, places) {
-            return Err(Refusal::OutsideLimits);
-        }
-        if !rises(places) {
-            return Err(Refusal::NotRising);
-        }
-        let (row_words, column_words) = words(places);
+        seed.check()?;
+        let (row_words, column_words) = words(seed.ones);
         Ok(Product {
-            rows,
-            columns,
+            rows: seed.rows,
+            columns: seed.columns,
             row_words,
             column_words,
         })
     }
-}
-
-fn size_outside(k: u16) -> bool
-    ensures { result ≡ size_outside k }
-{
-    !(1..=32).contains(&k)
-}
-
-fn lies_outside(rows: u16, columns: u16, p: Place) -> bool
-    ensures { result ≡ outside rows columns p }
-{
-    p.row >= rows || p.column >= columns
-}
-
-fn some_outside(rows: u16, columns: u16, places: &[Place]) -> bool
-    ensures { result ≡ some_outside rows columns places.now }
-{
-    places.iter().any(|p| lies_outside(rows, columns, *p))
-}
-
-fn rises(places: &[Place]) -> bool
-    ensures { result ≡ rising_from Nothing places.now }
-{
-    places.is_sorted_by(|p, q| p < q)
 }
 
 /// Puts a one at a place of a line.
@@ -66,14 +36,14 @@ fn mark(words: &mut [u32; 32], line: u16, place: u16)
 }
 
 /// The rows and the columns of the seed, as words.
-fn words(places: &[Place]) -> ([u32; 32], [u32; 32])
-    requires { some_outside 32 32 places.now ≡ false }
-    ensures rows { (a b : ℕ) → one_at result.0 a b ≡ marked a b places.now }
-    ensures columns { (a b : ℕ) → one_at result.1 b a ≡ marked a b places.now }
+fn words(ones: &[Place]) -> ([u32; 32], [u32; 32])
+    requires { some_outside 32 32 ones.now ≡ false }
+    ensures rows { (a b : ℕ) → one_at result.0 a b ≡ marked a b ones.now }
+    ensures columns { (a b : ℕ) → one_at result.1 b a ≡ marked a b ones.now }
 {
     let mut rows = [0; 32];
     let mut columns = [0; 32];
-    for p in places {
+    for p in ones {
         mark(&mut rows, p.row, p.column);
         mark(&mut columns, p.column, p.row);
     }

@@ -3,8 +3,6 @@ ghost use Rattle.std.specs.Prelude.{◌≡◌};
 ghost use Rattle.rules.specs.Tallies.{outcome, close, copy_out};
 ghost use Rattle.table.specs.OfTable.{meaning_of};
 ghost use Rattle.trial.specs.Closing.{closed_of, TellsTruth};
-ghost use Rattle.trial.specs.Model.{model};
-ghost use Rattle.trial.specs.Tallied.{tally_of};
 
 use super::Trial;
 use crate::slip::Slip;
@@ -28,8 +26,8 @@ impl Trial<'_> {
     /// error fits; "solved" only if the flipped qubits fit, exactly 2 ^ (pruned + chosen) errors do, and with nothing chosen each of these differs
     /// from the flipped qubits by a product of generators.
     pub fn close(&self, slip: Slip, tally: &mut Tally) -> Result<Verdict, NotClosed>
-        ensures does { closed_of result tally.new ≡ close (model self.now) slip.number (tally_of tally.old) }
-        ensures truth { TellsTruth (meaning_of self.now.table.now) (model self.now) result }
+        ensures does { closed_of result tally.new ≡ close self.now.state slip.number tally.old.counts }
+        ensures truth { TellsTruth (meaning_of self.now.table) self.now.state result }
     {
         if !self.is_shown(&slip) || tally.has_none_out() {
             let refusal = Refusal::WrongSlip;
@@ -47,14 +45,13 @@ impl Trial<'_> {
     }
 
     /// What a close says: a void trial fits nothing; else it is unfinished while a qubit is erased or shelved; else an odd check shows that nothing fits.
-    #[tactic(auto, unfolding(crate::specs::Model::model))]
     fn outcome(&self) -> Outcome
-        ensures { result ≡ outcome (model self.now) }
+        ensures { result ≡ outcome self.now.state }
     {
         if self.void {
             return Outcome::Nothing;
         }
-        if some_left(self.status.as_slice()) {
+        if some_left(self.erasures.status.as_slice()) {
             return Outcome::Unfinished;
         }
         if any(self.odd.as_slice()) {
@@ -64,9 +61,8 @@ impl Trial<'_> {
     }
 
     /// Writes 1 for a flipped qubit and 0 for another into the first bytes of a buffer, one a qubit; the others keep their values.
-    #[tactic(auto, unfolding(crate::specs::Model::model))]
     pub fn copy_out(&self, buffer: &mut [u8]) -> Result<(), Refusal>
-        ensures { (result, buffer.new) ≡ copy_out (meaning_of self.now.table.now) (model self.now) buffer.old }
+        ensures { (result, buffer.new) ≡ copy_out (meaning_of self.now.table) self.now.state buffer.old }
     {
         write_marks(self.flipped.as_slice(), buffer)
     }

@@ -1,5 +1,6 @@
-//! The qubits that a trial begins with.
-ghost use Rattle.std.specs.Prelude.{◌≡◌, ◌<◌, false, length, replicate, IfOk, slice_set};
+//! The erased qubits of a trial.
+ghost use Rattle.std.specs.Prelude.{◌≡◌, ◌<◌, ◌==◌, false, length, replicate, IfOk, slice_set};
+ghost use Rattle.sets.specs.Sets.{row, meet, size};
 ghost use Rattle.meaning.specs.Meaning.{qubits};
 ghost use Rattle.rules.specs.declared.answers.Status.TheVariants.{Erased, Done};
 ghost use Rattle.rules.specs.Reports.{some_past};
@@ -8,18 +9,19 @@ ghost use Rattle.upkeep.specs.Changed.{changed};
 ghost use Rattle.upkeep.specs.Counts.{counts_in};
 ghost use Rattle.upkeep.specs.Statuses.{erased_of};
 
-use marking::changing::raise;
+use marking::changing::{lower, raise};
 use marking::statuses::is_erased;
 use rules::answers::Status;
 use std::alloc::{AllocError, Global};
 use table::Table;
 
-/// The status of each qubit, and for each check, how many erased qubits it holds.
+/// The status of each qubit of a table's code, and how many erased qubits each check holds.
 #[derive(Drop)]
 pub(crate) struct Erasures<'t> {
-    table: &'t Table,
+    pub(crate) table: &'t Table,
     pub(crate) status: Vec<Status>,
-    pub(crate) held: Vec<u16>,
+    /// For each check, how many erased qubits it holds, so that a dangling check is found without reading its row.
+    held: Vec<u16>,
     ghost fit: { length status.items ≡ qubits (meaning_of table.now) },
     ghost counts: { held.items ≡ counts_in (meaning_of table.now).checks (erased_of status.items) },
 }
@@ -55,6 +57,29 @@ impl<'t> Erasures<'t> {
 }
 
 impl Erasures<'_> {
+    /// Whether a check holds exactly one erased qubit.
+    pub(crate) fn holds_one(&self, check: u16) -> bool
+        ensures { result ≡ (size (meet (row (meaning_of self.now.table.now).checks check) (erased_of self.now.status.items)) == 1) }
+    {
+        self.held.get(check as usize) == Some(&1)
+    }
+
+    /// A qubit is done, and counts in its checks no more.
+    pub(crate) fn finish(&mut self, qubit: u16)
+        requires { qubit < length self.old.status.items }
+        ensures does { self.new.status.items ≡ slice_set self.old.status.items qubit Done }
+        ensures table { self.new.table.now ≡ self.old.table.now }
+    {
+        let q = qubit as usize;
+        let counted = if self.status[q] == Status::Erased {
+            self.table.checks_at(qubit)
+        } else {
+            &[]
+        };
+        lower(counted, self.held.as_mut_slice());
+        self.status[q] = Status::Done;
+    }
+
     /// A qubit is erased, and counts in its checks from then on.
     fn erase(&mut self, qubit: u16)
         requires { qubit < length self.old.status.items }

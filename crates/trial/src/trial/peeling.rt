@@ -4,7 +4,6 @@ ghost use Rattle.terms.specs.Answering.{checked};
 ghost use Rattle.rules.specs.Calls.{dangling, peel_bars, peel};
 ghost use Rattle.table.specs.OfTable.{meaning_of};
 ghost use Rattle.upkeep.specs.Fault.{fault};
-ghost use Rattle.trial.specs.Model.{model};
 
 use super::Trial;
 use crate::slip::Slip;
@@ -13,15 +12,15 @@ use terms::refusal::Refusal;
 use terms::row::Row;
 
 impl Trial<'_> {
-    // Kept: that the whole table stays stands beside what happens, here, at `prune` and at `finish`; a definition of both would hide one equation behind a word.
+    // Kept: that the table stays stands beside what happens, here, at `prune` and at `finish`: the rules have a state and no table, and a definition of both would hide one equation behind a word.
     /// Peels a dangling check, an open one that holds exactly one erased qubit: the qubit is done, flipped if the check is odd. Answers the qubit.
     pub fn peel(&mut self, slip: &Slip, check: u16) -> Result<u16, Refusal>
-        ensures does { (result, model self.new) ≡ peel (meaning_of self.old.table.now) (model self.old) slip.now.number check }
-        ensures table { self.new.table.now ≡ self.old.table.now }
+        ensures does { (result, self.new.state) ≡ peel (meaning_of self.old.table) self.old.state slip.now.number check }
+        ensures table { self.new.table ≡ self.old.table }
     {
         self.peel_fault(slip, check)?;
-        let row = self.table.row(Row::Check(check));
-        let Some(qubit) = erased_among(row, self.status.as_slice()) else {
+        let row = self.erasures.table.row(Row::Check(check));
+        let Some(qubit) = erased_among(row, self.erasures.status.as_slice()) else {
             return unreachable();
         };
         let flip = self.odd[check as usize];
@@ -31,11 +30,10 @@ impl Trial<'_> {
     }
 
     /// Whether a peel is refused, and why.
-    #[tactic(auto, unfolding(crate::specs::Model::model))]
     fn peel_fault(&self, slip: &Slip, check: u16) -> Result<(), Refusal>
-        ensures { result ≡ checked (fault (peel_bars (meaning_of self.now.table.now) (model self.now) slip.now.number check)) }
+        ensures { result ≡ checked (fault (peel_bars (meaning_of self.now.table) self.now.state slip.now.number check)) }
     {
-        if check >= self.table.checks() {
+        if check >= self.erasures.table.checks() {
             return Err(Refusal::CheckTooLarge);
         }
         if self.void {
@@ -51,21 +49,15 @@ impl Trial<'_> {
     }
 
     /// Whether a check is dangling: open, with exactly one erased qubit.
-    #[tactic(auto, unfolding(crate::specs::Model::model))]
     pub(crate) fn is_dangling(&self, check: u16) -> bool
-        ensures { result ≡ dangling (meaning_of self.now.table.now) (model self.now) check }
+        ensures { result ≡ dangling (meaning_of self.now.table) self.now.state check }
     {
-        let c = check as usize;
-        if c >= self.held.len() {
-            return false;
-        }
-        !self.closed[c] && self.held[c] == 1
+        self.closed.get(check as usize) != Some(&true) && self.erasures.holds_one(check)
     }
 
     /// Whether the slip is the trial's, by its number.
-    #[tactic(auto, unfolding(crate::specs::Model::model))]
     pub(crate) fn is_shown(&self, slip: &Slip) -> bool
-        ensures { result ≡ (slip.now.number == (model self.now).number) }
+        ensures { result ≡ (slip.now.number == self.now.state.number) }
     {
         slip.number() == self.number
     }

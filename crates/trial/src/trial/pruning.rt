@@ -8,7 +8,6 @@ ghost use Rattle.rules.specs.Calls.{some_outside, prune_bars, prune};
 ghost use Rattle.table.specs.OfTable.{meaning_of};
 ghost use Rattle.upkeep.specs.Fault.{fault};
 ghost use Rattle.upkeep.specs.Statuses.{erased_of};
-ghost use Rattle.trial.specs.Model.{model};
 
 use super::Trial;
 use crate::slip::Slip;
@@ -22,8 +21,8 @@ use terms::row::Row;
 impl Trial<'_> {
     /// Prunes a qubit with a list of 1 to 4 generators, all of whose qubits are erased, and of whose entries an odd number holds it: the qubit is done, unflipped.
     pub fn prune(&mut self, slip: &Slip, qubit: u16, generators: &[u16]) -> Result<(), Refusal>
-        ensures does { (result, model self.new) ≡ prune (meaning_of self.old.table.now) (model self.old) slip.now.number qubit generators.now }
-        ensures table { self.new.table.now ≡ self.old.table.now }
+        ensures does { (result, self.new.state) ≡ prune (meaning_of self.old.table) self.old.state slip.now.number qubit generators.now }
+        ensures table { self.new.table ≡ self.old.table }
     {
         self.prune_fault(slip, qubit, generators)?;
         self.finish(qubit, false);
@@ -32,14 +31,13 @@ impl Trial<'_> {
     }
 
     /// Whether a prune is refused, and why.
-    #[tactic(auto, unfolding(crate::specs::Model::model))]
     fn prune_fault(&self, slip: &Slip, qubit: u16, generators: &[u16]) -> Result<(), Refusal>
-        ensures { result ≡ checked (fault (prune_bars (meaning_of self.now.table.now) (model self.now) slip.now.number qubit generators.now)) }
+        ensures { result ≡ checked (fault (prune_bars (meaning_of self.now.table) self.now.state slip.now.number qubit generators.now)) }
     {
-        if qubit >= self.table.qubits() {
+        if qubit >= self.erasures.table.qubits() {
             return Err(Refusal::QubitTooLarge);
         }
-        if some_past(self.table.generators(), generators) {
+        if some_past(self.erasures.table.generators(), generators) {
             return Err(Refusal::GeneratorTooLarge);
         }
         if generators.len() == 0 || generators.len() > 4 {
@@ -48,10 +46,14 @@ impl Trial<'_> {
         if self.void {
             return Err(Refusal::NoSolution);
         }
-        if some_outside(self.table, generators, self.status.as_slice()) {
+        if some_outside(
+            self.erasures.table,
+            generators,
+            self.erasures.status.as_slice(),
+        ) {
             return Err(Refusal::GeneratorNotErased);
         }
-        if !is_named_oddly(self.table, generators, qubit) {
+        if !is_named_oddly(self.erasures.table, generators, qubit) {
             return Err(Refusal::EvenlyNamed);
         }
         if !self.is_shown(slip) {

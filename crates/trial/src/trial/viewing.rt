@@ -1,12 +1,12 @@
 //! Looking at a trial.
 ghost use Rattle.std.specs.Prelude.{◌≡◌};
-ghost use Rattle.trial.specs.Model.{model};
 ghost use Rattle.trial.specs.Viewed.{viewed};
 
 use super::Trial;
 use rules::answers::Status;
 
 /// A trial as it stands: the status and the mark of each qubit, the two marks of each check, the void mark, the slip's number and the counts.
+// Kept: flat, with public fields: a caller reads one mark or count at a time, and a model would hide what the view is there to show.
 #[derive(Clone, Copy)]
 pub struct View<'a> {
     pub status: &'a [Status],
@@ -22,12 +22,11 @@ pub struct View<'a> {
 
 impl Trial<'_> {
     /// The trial as it stands.
-    #[tactic(auto, unfolding(crate::specs::Model::model))]
     pub fn view(&self) -> View<'_>
-        ensures { viewed result ≡ model self.now }
+        ensures { viewed result ≡ self.now.state }
     {
         View {
-            status: self.status.as_slice(),
+            status: self.erasures.status.as_slice(),
             flipped: self.flipped.as_slice(),
             closed: self.closed.as_slice(),
             odd: self.odd.as_slice(),

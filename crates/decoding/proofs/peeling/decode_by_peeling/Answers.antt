@@ -14,9 +14,7 @@ use Rattle.rules.proofs.Bars.{not_ok}
 use Rattle.table.specs.OfTable.{meaning_of}
 use Rattle.table.specs.declared.Table.{Table}
 use Rattle.trial.specs.Closing.{TellsTruth}
-use Rattle.trial.specs.Model.{model}
 use Rattle.trial.specs.Opening.{Opens, opened_of}
-use Rattle.trial.specs.Tallied.{tally_of}
 use Rattle.decoding.specs.Peeling.{peels, decided, Decides, TrueAfter}
 use Rattle.decoding.proofs.Decided.{failed, finished, is_closed, one_opened}
 use Rattle.decoding.proofs.peeling.decode_by_peeling.Goals as goal
@@ -27,9 +25,9 @@ pair h = let p = sym h.0 in let q = sym h.1 in λ i. (p i, q i)
 pub returns-in_err-table : goal.returns-in_err-table
 returns-in_err-table g c =
     let M = g.C.Code.meaning c.args.code.now in
-    let t = tally_of c.args.tally.now in
-    let lost = c.args.lost.now in
-    let odds = c.args.odd.now in
+    let t = c.args.tally.now.counts in
+    let lost = c.args.report.lost.now in
+    let odds = c.args.report.odd.now in
     let checks = c.args.checks.now in
     let p = err_from_is_err_and c.from_residual.result c.from_residual.ensures.1 in
     record {
@@ -40,10 +38,10 @@ returns-in_err-table g c =
 pub returns-in_err-trial : goal.returns-in_err-trial
 returns-in_err-trial g c =
     let M = g.C.Code.meaning c.args.code.now in
-    let t = tally_of c.args.tally.now in
-    let u = tally_of c.open.new.tally in
-    let lost = c.args.lost.now in
-    let odds = c.args.odd.now in
+    let t = c.args.tally.now.counts in
+    let u = c.open.new.tally.counts in
+    let lost = c.args.report.lost.now in
+    let odds = c.args.report.odd.now in
     let checks = c.args.checks.now in
     let p = err_from_is_err_and c.from_residual-in_err-trial.result c.from_residual-in_err-trial.ensures.1 in
     let refused = subst (λ (m : Meaning). Opens (Err c.in_err-trial.field-0.0) t u (open_trial m t lost odds)) c.in_ok-table.ensures.0 c.in_err-trial.ensures.does in
@@ -59,7 +57,7 @@ loop-c-init g c = record { leads = refl; same = ap (λ (t : Table). meaning_of t
 pub loop-c-preserved : goal.loop-c-preserved
 loop-c-preserved g c =
     let M = g.C.Code.meaning c.args.code.now in
-    let s = model c.loop-c.trial in
+    let s = c.loop-c.trial.state in
     let n = c.in_ok-trial.field-0.slip.number in
     let checks = c.args.checks.now in
     let i = c.loop-c.c-index in
@@ -72,34 +70,34 @@ loop-c-preserved g c =
 pub unreachable-requires : goal.unreachable-requires
 unreachable-requires g c =
     let M = g.C.Code.meaning c.args.code.now in
-    let t = tally_of c.args.tally.now in
-    let u = tally_of c.open.new.tally in
-    let lost = c.args.lost.now in
-    let odds = c.args.odd.now in
+    let t = c.args.tally.now.counts in
+    let u = c.open.new.tally.counts in
+    let lost = c.args.report.lost.now in
+    let odds = c.args.report.odd.now in
     let checks = c.args.checks.now in
     let o = opened_of c.in_ok-trial.field-0 in
     let e = subst (λ (m : Meaning). open_trial m t lost odds ≡ (Ok o, u)) c.in_ok-table.ensures.0 (pair c.in_ok-trial.ensures.does) in
-    let end = sym (at_drop_all (λ l. after M (model c.loop-c.trial) (peels o.slip l)) checks c.loop-c.c-index (omega arith)) ∙ c.loop-c.invariant.leads in
+    let end = sym (at_drop_all (λ l. after M c.loop-c.trial.state (peels o.slip l)) checks c.loop-c.c-index (omega arith)) ∙ c.loop-c.invariant.leads in
     let answer = ap (λ (x : Closed). x.answer) c.in-Err.ensures.does ∙ ap (λ (s : State). (close s o.slip u).answer) end in
     not_ok _ _ (answer ∙ (is_closed M t lost odds checks c.args.tally.now.balanced o u e).0)
 
 pub returns : goal.returns
 returns g c =
     let M = g.C.Code.meaning c.args.code.now in
-    let t = tally_of c.args.tally.now in
-    let u = tally_of c.open.new.tally in
-    let lost = c.args.lost.now in
-    let odds = c.args.odd.now in
+    let t = c.args.tally.now.counts in
+    let u = c.open.new.tally.counts in
+    let lost = c.args.report.lost.now in
+    let odds = c.args.report.odd.now in
     let checks = c.args.checks.now in
     let o = opened_of c.in_ok-trial.field-0 in
     let e = subst (λ (m : Meaning). open_trial m t lost odds ≡ (Ok o, u)) c.in_ok-table.ensures.0 (pair c.in_ok-trial.ensures.does) in
-    let end = sym (at_drop_all (λ l. after M (model c.loop-c.trial) (peels o.slip l)) checks c.loop-c.c-index (omega arith)) ∙ c.loop-c.invariant.leads in
+    let end = sym (at_drop_all (λ l. after M c.loop-c.trial.state (peels o.slip l)) checks c.loop-c.c-index (omega arith)) ∙ c.loop-c.invariant.leads in
     let v = c.in-Ok.verdict in
     let closed = c.in-Ok.ensures.does in
-    let told = subst (λ (m : Meaning). TellsTruth m (model c.loop-c.trial) (Ok v)) c.loop-c.invariant.same c.in-Ok.ensures.truth in
+    let told = subst (λ (m : Meaning). TellsTruth m c.loop-c.trial.state (Ok v)) c.loop-c.invariant.same c.in-Ok.ensures.truth in
     let true-here = told t u lost odds o e (peels o.slip checks) (sym end) in
     record {
-      does = finished M t lost odds checks o u e v (tally_of c.close.new.tally)
+      does = finished M t lost odds checks o u e v c.close.new.tally.counts
           (ap (λ (x : Closed). x.answer) closed ∙ ap (λ (s : State). (close s o.slip u).answer) end)
           (ap (λ (x : Closed). x.tally) closed ∙ ap (λ (s : State). (close s o.slip u).tally) end);
       truth = λ p w f. subst (λ (x : Opened). TrueOf M (report M lost odds) (after M x.trial (peels x.slip checks)) v) (one_opened M t lost odds o p u w e f)

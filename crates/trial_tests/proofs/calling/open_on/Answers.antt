@@ -3,4 +3,4 @@ use Rattle.trial_tests.proofs.Counted.{opens_one}
 use Rattle.trial_tests.proofs.calling.open_on.Goals as goal
 
 pub returns : goal.returns
-returns c = opens_one (meaning_of c.args.table.now) c.args.tally.now c.open.new.tally c.args.lost.now c.args.odd.now c.open.result c.open.ensures.does
+returns c = opens_one (meaning_of c.args.table.now) c.args.tally.now c.open.new.tally c.args.report.lost.now c.args.report.odd.now c.open.result c.open.ensures.does

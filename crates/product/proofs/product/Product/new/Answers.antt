@@ -1,34 +1,40 @@
-use Rattle.std.proofs.Common.{sym, ap, ◌∙◌}
+use Rattle.std.proofs.Common.{◌≡◌, Some, None, Ok, Option, sym, refl, ap, ◌∙◌, arith}
+use Rattle.terms.specs.declared.refusal.Refusal.{Refusal}
+use Rattle.terms.specs.Answering.{checked}
 use Rattle.terms.proofs.Answering.{answers_ok}
 use Rattle.meaning.specs.Product.{product_code, product_told}
 use Rattle.product.specs.OfProduct.{meaning_of, told_of}
 use Rattle.product.specs.Seed.{matrix}
-use Rattle.product.proofs.Seeds.{outside_wider, marked_inside, size_inside, seed_taken}
+use Rattle.product.proofs.Seeds.{outside_wider, marked_inside, taken}
 use Rattle.product.proofs.product.Product.new.Goals as goal
+
+checked_ok : (o : Option Refusal) → Ok tt ≡ checked o → o ≡ None
+checked_ok None e = refl
+checked_ok (Some f) e = grind arith
 
 pub words-requires : goal.words-requires
 words-requires c =
-    outside_wider c.args.rows c.args.columns 32 32 (size_inside c.args.rows (sym c.if-size_outside.ensures)).1 (size_inside c.args.columns (sym c.if-size_outside-2.ensures)).1
-    c.args.places.now (sym c.if-some_outside.ensures)
+    let s = c.args.seed in
+    let t = taken s (checked_ok _ c.in_ok-check.ensures) in
+    outside_wider s.rows s.columns 32 32 t.rows.1 t.columns.1 s.ones.now t.inside
 
 pub invariant_of-result : goal.invariant_of-result
 invariant_of-result c =
-    let r = size_inside c.args.rows (sym c.if-size_outside.ensures) in
-    let n = size_inside c.args.columns (sym c.if-size_outside-2.ensures) in
+    let s = c.args.seed in
+    let t = taken s (checked_ok _ c.in_ok-check.ensures) in
     record {
-      some_rows = r.0;
-      few_rows = r.1;
-      some_columns = n.0;
-      few_columns = n.1;
+      some_rows = t.rows.0;
+      few_rows = t.rows.1;
+      some_columns = t.columns.0;
+      few_columns = t.columns.1;
       crossed = λ a b. c.words.ensures.rows a b ∙ sym (c.words.ensures.columns a b);
-      inside = λ a b e. marked_inside c.args.rows c.args.columns c.args.places.now (sym c.if-some_outside.ensures) a b (sym (c.words.ensures.rows a b) ∙ e);
+      inside = λ a b e. marked_inside s.rows s.columns s.ones.now t.inside a b (sym (c.words.ensures.rows a b) ∙ e);
     }
 
 pub returns : goal.returns
 unfolding meaning_of told_of
 returns c =
-    let r = c.args.rows in
-    let n = c.args.columns in
-    let l = c.args.places.now in
-    answers_ok _ _ _ (seed_taken r n l (sym c.if-size_outside.ensures) (sym c.if-size_outside-2.ensures) (sym c.if-some_outside.ensures) (sym c.if-not-rises.ensures))
+    let r = c.args.seed.rows in
+    let n = c.args.seed.columns in
+    answers_ok _ _ _ (checked_ok _ c.in_ok-check.ensures)
     (ap (λ f. product_code r n (matrix r n f)) (λ i a b. c.words.ensures.rows a b i), ap (λ f. product_told r n (matrix r n f)) (λ i a b. c.words.ensures.rows a b i))

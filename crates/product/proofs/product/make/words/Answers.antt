@@ -9,7 +9,7 @@ loop-p-init c = record { by_row = λ a b. no_ones 32 a b; by_column = λ a b. no
 
 pub loop-p-preserved : goal.loop-p-preserved
 loop-p-preserved c =
-    let l = c.args.places.now in
+    let l = c.args.ones.now in
     let i = c.loop-p.p-index in
     let p = get_or l i origin in
     record {

@@ -10,4 +10,4 @@ pub record Filled (rows columns : List ℕ) (places : List Place) (i : ℕ) : Ty
   pub by_column : (a b : ℕ) → one_at columns b a ≡ marked a b (take i places)
 
 abbrev pub invariant-loop-p : goal.invariant-loop-p
-invariant-loop-p l = Filled l.rows l.columns l.places l.p-index
+invariant-loop-p l = Filled l.rows l.columns l.ones l.p-index

@@ -1,18 +1,18 @@
-use Rattle.std.proofs.Common.{sym, ap}
-use Rattle.rules.specs.Tallies.{Closed}
+use Rattle.std.proofs.Common.{◌≡◌, None, Ok, sym, ap, subst}
+use Rattle.rules.specs.Tallies.{Closed, close}
 use Rattle.table.specs.Stands.{table_sound}
-use Rattle.trial.specs.Model.{model}
-use Rattle.trial.specs.Tallied.{tally_of}
+use Rattle.trial.specs.Standing.{Standing}
 use Rattle.trial.proofs.Closes.{closes, tells_truth}
 use Rattle.trial.proofs.Done.{code}
 use Rattle.trial.proofs.trial.Trial.close.Goals as goal
 
-pub returns : goal.returns
-unfolding model
-returns c =
+pub returns-clause-does : goal.returns-clause-does
+returns-clause-does c =
+    let s = c.args.self.now.state in
+    subst (λ (x : Standing). ◌≡◌ {A = Closed} (record { answer = Ok (record { outcome = c.outcome-outcome.result; peeled = x.state.peeled; pruned = x.state.pruned; chosen = x.state.chosen }); tally = c.close_one.new.self.counts; slip = None }) (close s c.args.slip.number c.args.tally.now.counts)) (sym c.self.view_is)
+    (closes s c.args.slip.number c.args.tally.now.counts (sym c.if-not-is_shown.ensures) (sym c.if-has_none_out.ensures) c.outcome-outcome.result c.close_one.new.self.counts c.outcome-outcome.ensures c.close_one.ensures)
+
+pub returns-clause-truth : goal.returns-clause-truth
+returns-clause-truth c =
     let t = c.args.self.now in
-    let s = model t in
-    let slip = c.args.slip.number in
-    let tally = tally_of c.args.tally.now in
-    let e = closes s slip tally (sym c.if-not-is_shown.ensures) (sym c.if-has_none_out.ensures) c.outcome-outcome.result (tally_of c.close_one.new.self) c.outcome-outcome.ensures c.close_one.ensures in
-    record { does = e; truth = tells_truth (code t) (table_sound t.table.now) s slip tally _ (ap (λ (x : Closed). x.answer) e) }
+    tells_truth (code t) (table_sound t.table) t.state c.args.slip.number c.args.tally.now.counts _ (ap (λ (x : Closed). x.answer) (returns-clause-does c))

@@ -4,7 +4,7 @@ use Rattle.std.proofs.lemmas.List.Sorted.{answers_always}
 use borrow.Author.Tests.{tests}
 use Rattle.product.specs.declared.place.Place.{Place}
 use Rattle.product.specs.Seed.{before, rising_from}
-use Rattle.product.proofs.product.make.rises.Goals as goal
+use Rattle.product.proofs.seed.Seed.rises.Goals as goal
 
 rising : (p : Place) (l : List Place) → AllAdjacentBelow (λ x y. true ≡ before x y) (p ∷ l) (length (p ∷ l)) → true ≡ rising_from (Some p) l
 rising p [] h = refl
@@ -24,4 +24,4 @@ adjacent (p ∷ l) true h = rising p l h
 adjacent (p ∷ l) false h = falling p l h.0 p h.1 (h.2 p)
 
 pub returns : goal.returns
-returns c = adjacent c.args.places.now c.is_sorted_by.result (c.is_sorted_by.ensures.cases before (answers_always _ _ _ (λ f a r f' k. search (rules, tests))))
+returns c = adjacent c.args.self.now.ones.now c.is_sorted_by.result (c.is_sorted_by.ensures.cases before (answers_always _ _ _ (λ f a r f' k. search (rules, tests))))

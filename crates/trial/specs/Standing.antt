@@ -1,0 +1,42 @@
+-- A trial as its callers see it: its table, its state as the rules have it, and what is true of every one.
+use Rattle.std.specs.Prelude.{◌≡◌, ℕ, ◌+◌, ◌≤◌, Bool, List, [], length}
+use Rattle.sets.specs.Sets.{size}
+use Rattle.meaning.specs.Meaning.{Meaning, qubits}
+use Rattle.rules.specs.declared.answers.Status.{Status}
+use Rattle.rules.specs.States.{State}
+use Rattle.table.specs.OfTable.{meaning_of}
+use Rattle.table.specs.declared.Table.{Table}
+use Rattle.upkeep.specs.Statuses.{erased_of, shelved_of}
+
+-- what is true of every trial: there is a mark for each qubit and each check of the code;
+-- and the counts and the qubits that are left come to no more than the qubits, so that no count overflows
+pub record Sized (M : Meaning) (s : State) : Type 0 where
+  pub erased : length s.erased ≡ qubits M
+  pub shelved : length s.shelved ≡ qubits M
+  pub flipped : length s.flipped ≡ qubits M
+  pub closed : length s.closed ≡ length M.checks
+  pub odds : length s.odds ≡ length M.checks
+  pub few : s.peeled + s.pruned + s.chosen + size s.erased + size s.shelved ≤ qubits M
+
+-- what a contract sees of a trial
+pub record Standing : Type 0 where
+  pub table : Table
+  pub state : State
+  pub sized : Sized (meaning_of table) state
+
+-- the state that lists of statuses and marks, the void mark, the slip's number and the counts make
+abbrev pub state_of : List Status → (flipped closed odd : List Bool) → (void : Bool) → (number peeled pruned chosen : ℕ) → State
+state_of status flipped closed odd void number peeled pruned chosen =
+    record {
+      erased = erased_of status;
+      shelved = shelved_of status;
+      flipped = flipped;
+      closed = closed;
+      odds = odd;
+      shelf = [];
+      void = void;
+      number = number;
+      peeled = peeled;
+      pruned = pruned;
+      chosen = chosen;
+    }

@@ -35,6 +35,7 @@ impl<'t> Trials<'t> {
         self.trials.get(place)
     }
 
+    /// Peels the trial of one place and shows it the slip of another.
     pub(crate) fn peel(&mut self, numbers: &mut Numbers) -> Told
         ensures { self.new.slips.items ≡ self.old.slips.items }
     {
@@ -49,6 +50,7 @@ impl<'t> Trials<'t> {
         Told::of_trial(answer, place)
     }
 
+    /// Prunes the trial of one place and shows it the slip of another.
     pub(crate) fn prune(&mut self, heap: Global, numbers: &mut Numbers) -> Result<Told, AllocError>
         ensures { self.new.slips.items ≡ self.old.slips.items }
     {

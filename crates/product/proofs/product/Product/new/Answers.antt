@@ -1,27 +1,21 @@
-use Rattle.std.proofs.Common.{◌≡◌, Some, None, Ok, Option, sym, refl, ap, ◌∙◌, arith}
-use Rattle.terms.specs.declared.refusal.Refusal.{Refusal}
-use Rattle.terms.specs.Answering.{checked}
+use Rattle.std.proofs.Common.{sym, ap, ◌∙◌, arith}
 use Rattle.terms.proofs.Answering.{answers_ok}
 use Rattle.meaning.specs.Product.{product_code, product_told}
 use Rattle.product.specs.OfProduct.{meaning_of, told_of}
-use Rattle.product.specs.Seed.{matrix}
+use Rattle.product.specs.Seed.{matrix, fault_of}
 use Rattle.product.proofs.Seeds.{outside_wider, marked_inside, taken}
 use Rattle.product.proofs.product.Product.new.Goals as goal
-
-checked_ok : (o : Option Refusal) → Ok tt ≡ checked o → o ≡ None
-checked_ok None e = refl
-checked_ok (Some f) e = grind arith
 
 pub words-requires : goal.words-requires
 words-requires c =
     let s = c.args.seed in
-    let t = taken s (checked_ok _ c.in_ok-check.ensures) in
+    let t = taken s (grind (arith, c.in_ok-check.ensures)) in
     outside_wider s.rows s.columns 32 32 t.rows.1 t.columns.1 s.ones.now t.inside
 
 pub invariant_of-result : goal.invariant_of-result
 invariant_of-result c =
     let s = c.args.seed in
-    let t = taken s (checked_ok _ c.in_ok-check.ensures) in
+    let t = taken s (grind (arith, c.in_ok-check.ensures)) in
     record {
       some_rows = t.rows.0;
       few_rows = t.rows.1;
@@ -36,5 +30,5 @@ unfolding meaning_of told_of
 returns c =
     let r = c.args.seed.rows in
     let n = c.args.seed.columns in
-    answers_ok _ _ _ (checked_ok _ c.in_ok-check.ensures)
+    answers_ok _ (fault_of c.args.seed) _ (grind (arith, c.in_ok-check.ensures))
     (ap (λ f. product_code r n (matrix r n f)) (λ i a b. c.words.ensures.rows a b i), ap (λ f. product_told r n (matrix r n f)) (λ i a b. c.words.ensures.rows a b i))

@@ -41,8 +41,7 @@ impl Held {
     ) -> Result<(Held, String), AllocError> {
         match made {
             Ok(held) => held.answered(heap, Asked::Sizes),
-            Err(Refusal::NoMemory) => Err(AllocError),
-            Err(refusal) => Ok((self, format!(in heap; "{}", Refused(refusal))?)),
+            Err(refusal) => Ok((self, Refused(refusal).text(heap)?)),
         }
     }
 
@@ -99,6 +98,8 @@ impl Asked<'_> {
     }
 }
 
+// Kept: these five words stand in `trial_tests` too, which asks tables. One enum of questions would have a reader with a match on the words, and a
+// match on the enum in each program: three where there are two, and a definition of the words besides.
 fn ask_code<C: Code>(code: &C, question: &Line) -> Option<u16> {
     let mut numbers = Numbers::new(question.numbers());
     let first = numbers.short();

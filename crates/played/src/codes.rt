@@ -33,6 +33,7 @@ pub fn product_in(heap: Global, numbers: &[u32]) -> Result<Product, Refusal>
     })
 }
 
+// Kept: as `placed` of `naming`, which reads numbers that are no larger than a place's; one function would take the conversion as a closure, and be longer than both.
 fn places_of(heap: Global, pairs: &[[u32; 2]]) -> Result<Vec<Place>, AllocError>
     ensures { IfOk result (λ v. v.items ≡ map place_of pairs.now) }
 {
@@ -72,6 +73,7 @@ fn rows_in(heap: Global, numbers: &mut Numbers<'_>) -> Result<Rows, AllocError>
     ensures rows { IfOk result (λ r. r ≡ counted_rows numbers.old) }
     ensures rest { OnOk result (numbers.new ≡ after_counted_rows numbers.old) }
 {
+    // Kept: a loop, as in `Numbers::list`: a row is as long as its own count says.
     let count = numbers.next();
     let mut rows = Rows::new(heap);
     for _read in 0..count {

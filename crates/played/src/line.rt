@@ -43,6 +43,7 @@ impl Line {
 fn number_in(token: &str, largest: u32) -> Option<u32>
     ensures { result ≡ number_of largest token.now }
 {
+    // Kept: through `ok().filter(..)` the goal `returns` stays open.
     match token.parse::<u32>() {
         Ok(number) if number <= largest => Some(number),
         _ => None,

@@ -40,6 +40,7 @@ impl<'a> Numbers<'a> {
         *first
     }
 
+    // Kept: `rest` stands at each of the four, since each takes a number off.
     /// The next number as a place in a list.
     pub fn place(&mut self) -> usize
         ensures value { result ≡ slice_index self.old 0 }
@@ -68,7 +69,8 @@ impl<'a> Numbers<'a> {
         ensures items { IfOk result (λ v. v.items ≡ counted self.old) }
         ensures rest { OnOk result (self.new ≡ after_counted self.old) }
     {
-        // Kept: a loop. The numbers are read off `self`, and of a closure that changes what it captures a chain's proof knows nothing.
+        // Kept: a loop, since past the end each number is 0. A chain would count places, look each up (`get(k).unwrap_or(0)`), and cut off after
+        // it what it read; of a closure that reads off `self` its proof knows nothing.
         let count = self.next();
         let mut list = Vec::new(heap);
         for _read in 0..count {

@@ -52,19 +52,15 @@ impl Codes {
             "listed" => self.make(heap, listed_in(heap, step.numbers()), Source::Listed),
             "turned" => self.make_turned(heap, Numbers::new(step.numbers())),
             _ => {
-                return match Question::read(step) {
-                    Some(question) => Ok(Some(format!(in heap;
-                        "{}",
-                        Found(self.answer(question))
-                    )?)),
-                    None => Ok(None),
+                let Some(question) = Question::read(step) else {
+                    return Ok(None);
                 };
+                return Ok(Some(format!(in heap; "{}", Found(self.answer(question)))?));
             }
         };
         let answer = match made {
             Ok(sizes) => sizes,
-            Err(Refusal::NoMemory) => return Err(AllocError),
-            Err(refusal) => format!(in heap; "{}", Refused(refusal))?,
+            Err(refusal) => Refused(refusal).text(heap)?,
         };
         Ok(Some(answer))
     }

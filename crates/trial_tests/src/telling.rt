@@ -133,30 +133,30 @@ pub(crate) struct Told {
 }
 
 impl Told {
-    pub(crate) fn unknown() -> Told {
+    fn of(answer: Answer) -> Told {
         Told {
-            answer: Answer::Unknown,
+            answer,
             bytes: None,
             trial: None,
             tally: None,
         }
     }
 
+    pub(crate) fn unknown() -> Told {
+        Told::of(Answer::Unknown)
+    }
+
     pub(crate) fn of_trial(answer: Answer, trial: usize) -> Told {
         Told {
-            answer,
-            bytes: None,
             trial: Some(trial),
-            tally: None,
+            ..Told::of(answer)
         }
     }
 
     pub(crate) fn of_tally(answer: Answer, tally: usize) -> Told {
         Told {
-            answer,
-            bytes: None,
-            trial: None,
             tally: Some(tally),
+            ..Told::of(answer)
         }
     }
 }

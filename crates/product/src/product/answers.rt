@@ -67,19 +67,9 @@ impl Product {
         let rows = self.rows;
         let columns = self.columns;
         match row {
-            Row::Check(k) => {
-                if k < columns * rows {
-                    Some(self.check_parts(k / rows, k % rows))
-                } else {
-                    None
-                }
-            }
+            Row::Check(k) => (k < columns * rows).then(|| self.check_parts(k / rows, k % rows)),
             Row::Generator(k) => {
-                if k < rows * columns {
-                    Some(self.generator_parts(k / columns, k % columns))
-                } else {
-                    None
-                }
+                (k < rows * columns).then(|| self.generator_parts(k / columns, k % columns))
             }
         }
     }

@@ -19,7 +19,7 @@ const ODD: u16 = 65535;
 
 /// The slack of a system, plus 2; 1 where it has no solution; 0 for want of memory or more than 256 unknowns.
 /// A check is the numbers of its unknowns, then 65535 if it is odd or 65534 if it is even. The system is solved `times` times, in the same tables.
-// Kept: the codes of the answer and the two words that end a check are the C interface.
+// Kept: the system by its parts, the codes of the answer and the two words that end a check, as the C interface has them.
 #[unsafe(no_mangle)]
 pub extern "C" fn eliminate(heap: Global, unknowns: u16, checks: &[u16], times: u16) -> u16
     ensures { Tells unknowns checks.now result }

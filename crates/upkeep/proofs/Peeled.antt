@@ -1,15 +1,14 @@
 -- The one erased qubit of a dangling check.
-use Rattle.std.proofs.Common.{◌≡◌, ℕ, ◌<◌, ◌≤◌, Bool, true, false, cond, not, ◌&&◌, eqb, [], length, Ok, Result, sym, refl, ap, ◌∙◌, ap₂, arith}
-use Rattle.std.proofs.lemmas.List.{get_or_past}
+use Rattle.std.proofs.Common.{◌≡◌, ℕ, ◌<◌, true, cond, ◌&&◌, length, Ok, Result, sym, ap, ◌∙◌, arith}
 use Rattle.std.proofs.lemmas.Bool.{and_from}
 use Rattle.terms.specs.declared.refusal.Refusal.{Refusal}
-use Rattle.sets.specs.Sets.{has, row, meet, only, empty, size, lowest}
+use Rattle.sets.specs.Sets.{has, row, only, empty, size, lowest}
 use Rattle.sets.proofs.Bits.{same}
 use Rattle.sets.proofs.Sets.{ext, row_of, length_over, length_only, has_meet, has_any, has_below, only_self, only_other}
-use Rattle.sets.proofs.Sizes.{one_only, lowest_has, size_none}
+use Rattle.sets.proofs.Sizes.{one_only, lowest_has}
 use Rattle.meaning.specs.Meaning.{Meaning, Sound, qubits}
 use Rattle.rules.specs.States.{State, finish, count}
-use Rattle.rules.specs.Calls.{held, dangling}
+use Rattle.rules.specs.Calls.{held}
 
 module _ (M : Meaning) (sound : Sound M) (s : State) (long : length s.erased ≡ qubits M) (c : ℕ) (check : c < length M.checks) (one : size (held M s c) ≡ 1) (q : ℕ) (inside : has (row M.checks c) q ≡ true) (lost : has s.erased q ≡ true) where
   here : has (held M s c) q ≡ true
@@ -35,11 +34,3 @@ module _ (M : Meaning) (sound : Sound M) (s : State) (long : length s.erased ≡
       let a = sym held_lowest in
       let b = sym held_only in
       λ i. (Ok (a i), count 1 0 0 (finish M (b i) (cond (has s.odds c) (b i) (empty (qubits M))) s))
-
--- what is no check is not dangling
-pub dangling_past : (M : Meaning) (s : State) (c : ℕ) → length M.checks ≤ c → false ≡ dangling M s c
-dangling_past M s c h = sym (ap (λ r. not (has s.closed c) && eqb (size (meet r s.erased)) 1) (get_or_past M.checks c [] h) ∙ ap (λ n. not (has s.closed c) && eqb n 1) (size_none (λ y. false && y) (λ y. refl) s.erased) ∙ no (not (has s.closed c)))
-  where
-    no : (x : Bool) → (x && false) ≡ false
-    no true = refl
-    no false = refl

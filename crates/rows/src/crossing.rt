@@ -22,8 +22,9 @@ impl Rows {
             for q in row {
                 // What is no column is passed over.
                 if let Some(next) = ends.get_mut(*q as usize) {
-                    places[*next] = k;
+                    let place = *next;
                     *next += 1;
+                    places[place] = k;
                 }
             }
         }

@@ -3,11 +3,12 @@ use Rattle.std.proofs.Common.{◌≡◌, ℕ, zero, suc, ◌+◌, ◌-◌, ◌<�
 use borrow.Author.Tests.{eqb-true}
 use Rattle.std.specs.List.{range_with_len, sum}
 use Rattle.std.proofs.lemmas.Bool.{eqb-false, ne_eqb}
-use Rattle.std.proofs.lemmas.List.{length_push, length-drop, take-take, take_all, get_or-take, get_or-set_same, get_or-set_other, drop-set-add, drop-set-lt, take-set-le, take_more_set}
+use Rattle.std.proofs.lemmas.List.{length_push, length-drop, take-take, take_all, get_or-take, get_or-set_other, drop-set-add, drop-set-lt, take-set-le, take_more_set}
+use Rattle.std.proofs.lemmas.Grind.{get_or-set_at}
 use Rattle.std.proofs.lemmas.List.FromFn.{fill_by_all, get_or-map-range_with_len, length-map-range_with_len}
-use Rattle.std.proofs.lemmas.List.Sums.{sum_by_more, sum_by_more_le, sum_by-take-le}
+use Rattle.std.proofs.lemmas.List.Sums.{sum_by_more, sum_by_more_le}
 use Rattle.sets.proofs.Numbers.{eqb_same}
-use Rattle.rows.specs.Cut.{cut, cuts, Rising}
+use Rattle.rows.specs.Cut.{cuts, Rising}
 use Rattle.rows.specs.Laid.{Laid}
 use Rattle.rows.proofs.Cuts.{length_cuts, cut_at, rising_by}
 
@@ -49,9 +50,12 @@ module _ (places : List ℕ) (k start len : ℕ) where
       ap (take (len + 1)) (drop-set-add start places len k) ∙ take_more_set (drop start places) len k l
 
 -- one number more, for the column q
-module _ (counts nexts places : List ℕ) (held held' : ℕ → List ℕ) (q k : ℕ) (more : (p : ℕ) → held' p ≡ held p ++ cond (eqb p q) (k ∷ []) []) (f : Filled counts held nexts places) where
+module _ {counts nexts places : List ℕ} {held held' : ℕ → List ℕ} (q k : ℕ) (more : (p : ℕ) → held' p ≡ held p ++ cond (eqb p q) (k ∷ []) []) (f : Filled counts held nexts places) where
   here : (p : ℕ) → eqb p q ≡ true → held' p ≡ held p ++ k ∷ []
   here p e = more p ∙ ap (λ b. held p ++ cond b (k ∷ []) []) e
+
+  length_here : (p : ℕ) → eqb p q ≡ true → length (held' p) ≡ length (held p) + 1
+  length_here p e = ap length (here p e) ∙ length_push (held p) k
 
   other : (p : ℕ) → eqb p q ≡ false → held' p ≡ held p
   other p e = more p ∙ ap (λ b. held p ++ cond b (k ∷ []) []) e ∙ append-nil (held p)
@@ -64,7 +68,7 @@ module _ (counts nexts places : List ℕ) (held held' : ℕ → List ℕ) (q k :
         many = f.many;
         wide = f.wide;
         next = λ p l. omega (arith, f.next p l, ap length (same p l));
-        holds = λ p l. let e = same p l in rw e (f.holds p l);
+        holds = λ p l. rw (same p l) (f.holds p l);
       }
 
   module _ (room : (p : ℕ) → p < length counts → length (held' p) ≤ get_or counts p 0) (next : ℕ) (is : next ≡ get_or nexts q 0) (low : q < length counts) where
@@ -72,7 +76,7 @@ module _ (counts nexts places : List ℕ) (held held' : ℕ → List ℕ) (q k :
     start p = sum (take p counts)
 
     longer : length (held q) + 1 ≤ get_or counts q 0
-    longer = omega (arith, room q low, ap length (here q (eqb_same q)), length_push (held q) k)
+    longer = omega (arith, room q low, length_here q (eqb_same q))
 
     at : next ≡ start q + length (held q)
     at = is ∙ f.next q low
@@ -83,17 +87,16 @@ module _ (counts nexts places : List ℕ) (held held' : ℕ → List ℕ) (q k :
     next_at : (p : ℕ) → p < length counts → (b : Bool) → eqb p q ≡ b → get_or (set nexts q (next + 1)) p 0 ≡ start p + length (held' p)
     next_at p l true e =
         let same = eqb-true p q e in
-        omega (arith, ap (λ (j : ℕ). get_or (set nexts q (next + 1)) j 0) same, get_or-set_same nexts q (next + 1) 0 (omega (arith, f.many)), is, ap (λ (j : ℕ). get_or nexts j 0) same, f.next p l, ap length (here p e), length_push (held p) k)
+        omega (arith, get_or-set_at nexts q p (next + 1) 0 same (omega (arith, f.many)), is, ap (λ (j : ℕ). get_or nexts j 0) same, f.next p l, length_here p e)
     next_at p l false e = omega (arith, get_or-set_other nexts q p (next + 1) 0 (eqb-false p q e), f.next p l, ap length (other p e))
 
     holds_at : (p : ℕ) → p < length counts → (b : Bool) → eqb p q ≡ b → take (length (held' p)) (drop (start p) (set places next k)) ≡ held' p
     holds_at p l true e =
         let is_next : next ≡ start p + length (held p) = at ∙ ap (λ (j : ℕ). start j + length (held j)) (sym (eqb-true p q e)) in
-        let len : length (held' p) ≡ length (held p) + 1 = ap length (here p e) ∙ length_push (held p) k in
+        let len = length_here p e in
         rw (len, is_next) (part_more places k (start p) (length (held p)) (rw is_next at inside) ∙ ap (λ t. t ++ k ∷ []) (f.holds p l) ∙ sym (here p e))
     holds_at p l false e =
-        let same = other p e in
-        rw same (untouched (ltb p q) refl ∙ f.holds p l)
+        rw (other p e) (untouched (ltb p q) refl ∙ f.holds p l)
       where
         untouched : (b : Bool) → ltb p q ≡ b → take (length (held p)) (drop (start p) (set places next k)) ≡ take (length (held p)) (drop (start p) places)
         untouched true t = part_below places k (start p) (length (held p)) next (omega (arith, at, room p l, ap length (other p e), starts_apart counts p q (ltb-true p q t) (omega arith)))
@@ -103,7 +106,13 @@ module _ (counts nexts places : List ℕ) (held held' : ℕ → List ℕ) (q k :
             part_above places k (start p) (length (held p)) next (omega (arith, at, longer, starts_apart counts q p o (omega arith)))
 
     pub filled_more : Filled counts held' (set nexts q (next + 1)) (set places next k)
-    filled_more = record { many = length-set nexts q (next + 1) ∙ f.many; wide = length-set places next k ∙ f.wide; next = λ p l. next_at p l (eqb p q) refl; holds = λ p l. holds_at p l (eqb p q) refl }
+    filled_more =
+        record {
+          many = length-set nexts q (next + 1) ∙ f.many;
+          wide = length-set places next k ∙ f.wide;
+          next = λ p l. next_at p l (eqb p q) refl;
+          holds = λ p l. holds_at p l (eqb p q) refl;
+        }
 
 -- columns that hold all that was counted
 module _ (f : ℕ → List ℕ) (n : ℕ) (nexts places : List ℕ) where

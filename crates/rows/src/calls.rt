@@ -55,10 +55,7 @@ impl Rows {
     pub(crate) fn first(&self, count: usize) -> &[u16]
         ensures { result.now ≡ concat (take count self.now) }
     {
-        part(
-            &self.places,
-            0,
-            start(&self.ends, count.min(self.ends.len())),
-        )
+        let rows = count.min(self.ends.len());
+        part(&self.places, 0, start(&self.ends, rows))
     }
 }

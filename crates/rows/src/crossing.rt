@@ -14,7 +14,7 @@ impl Rows {
     pub fn crossing(&self, heap: Global, count: u16, columns: u16) -> Result<Rows, AllocError>
         ensures { IfOk result (λ c. c ≡ map (λ q. namers self.now q count) (range_with_len 0 columns)) }
     {
-        // One array, which says of each column how long it is to be, then where its next number goes, and in the end where it ends.
+        // One array for all: how long each column is to be, then where its next number goes, and in the end where it ends.
         let mut ends = counted(self.first(count as usize), heap, columns)?;
         let end = lay(&mut ends)?;
         let mut places: Vec<u16> = vec![in heap; 0; end]?;
@@ -22,6 +22,7 @@ impl Rows {
             for q in row {
                 // What is no column is passed over.
                 if let Some(next) = ends.get_mut(*q as usize) {
+                    // Read once: after a write to `places` it would be read again.
                     let place = *next;
                     *next += 1;
                     places[place] = k;
@@ -32,7 +33,7 @@ impl Rows {
     }
 }
 
-/// How often a row names each number below `columns`.
+/// How often a row names each number below `columns`; what is no column is passed over.
 fn counted(row: &[u16], heap: Global, columns: u16) -> Result<Vec<usize>, AllocError>
     ensures { IfOk result (λ v. v.items ≡ map (λ q. times q row.now) (range_with_len 0 columns)) }
 {

@@ -1,12 +1,12 @@
-use Rattle.std.proofs.Common.{◌≡◌, ℕ, ◌<◌, ◌≤◌, ◌+◌, ◌-◌, List, [], ◌++◌, drop, length, map, inl, inr, refl, sym, ap, ◌∙◌, subst, arith}
+use Rattle.std.proofs.Common.{◌≡◌, ◌<◌, ◌+◌, ◌-◌, [], drop, length, map, inl, inr, refl, sym, ap, ◌∙◌, subst, arith}
 use Rattle.std.specs.List.{range_with_len}
 use Rattle.std.proofs.lemmas.List.{with_items_is}
 use Rattle.rows.specs.Crossing.{times, namers}
 use Rattle.rows.proofs.Growing.{Filled, filled_none, cuts_full, rising_full}
 use Rattle.rows.proofs.Named.{next_row, namers_past}
-use Rattle.rows.proofs.Marking.{counts, counts_joined, marked_none, marked_all, marked_past, marked_inside, marked_more}
+use Rattle.rows.proofs.Marking.{counts, counts_joined, marking_none, marking_all, marking_past, marking_inside, marking_more}
 use Rattle.rows.proofs.Rows.crossing.Goals as goal
-use Rattle.rows.proofs.Rows.crossing.Goals.{in-Some-get_mut, in_default}
+use Rattle.rows.proofs.Rows.crossing.Goals.{In-None, in-Some-get_mut, in_default}
 
 pub loop-k-init : goal.loop-k-init
 loop-k-init c =
@@ -21,63 +21,41 @@ loop-k-init c =
 
 pub loop-q-init : goal.loop-q-init
 loop-q-init c =
-    let rows = c.args.self.now in
-    let k = c.loop-k.k-iterator.a.start in
     let s = c.in-Some.ensures.steps in
-    let next = next_row rows c.next.new.self.b k c.in-Some.row.now (sym c.loop-k.invariant.1 ∙ s.1) in
-    rw s.0.1.1 (marked_none rows c.args.count c.args.columns k c.in-Some.row.now _ _ c.loop-k.invariant.0, next.0, omega (arith, s.0.1.0, c.loop-k.invariant.2))
+    let next = next_row c.args.self.now c.next.new.self.b c.loop-k.k-iterator.a.start c.in-Some.row.now (sym c.loop-k.invariant.1 ∙ s.1) in
+    rw s.0.1.1 (marking_none c.loop-k.invariant.0 next.0 (omega (arith, s.0.1.0, c.loop-k.invariant.2)))
 
 pub index_mut-requires : goal.index_mut-requires
-index_mut-requires c =
-    let l = c.loop-q in
-    let found = c.in-Some-get_mut.ensures.item.3 in
-    omega (arith, marked_inside c.args.self.now c.args.count c.args.columns _ _ _ _ l.ends.items l.places.items l.invariant.1 l.invariant.2 c.loop-q-test.true l.invariant.0 (found.1 0) found.0)
+index_mut-requires c = omega (arith, marking_inside c.loop-q.invariant c.loop-q-test.true c.in-Some-get_mut.next.now c.in-Some-get_mut.ensures.item.3)
 
 pub overflow_add-next : goal.overflow_add-next
-overflow_add-next c =
-    let l = c.loop-q in
-    let found = c.in-Some-get_mut.ensures.item.3 in
-    omega (arith, marked_inside c.args.self.now c.args.count c.args.columns _ _ _ _ l.ends.items l.places.items l.invariant.1 l.invariant.2 c.loop-q-test.true l.invariant.0 (found.1 0) found.0)
+overflow_add-next c = omega (arith, marking_inside c.loop-q.invariant c.loop-q-test.true c.in-Some-get_mut.next.now c.in-Some-get_mut.ensures.item.3)
 
 pub loop-q-preserved : goal.loop-q-preserved
 loop-q-preserved c =
-    let l = c.loop-q in
     elim c.match-get_mut.branch [
-      | in-Some-get_mut w ↦
-          let found = w.in-Some-get_mut.ensures.item.3 in
-          rw (w.ends-is, w.places-is) (
-            marked_more c.args.self.now c.args.count c.args.columns _ _ _ _ l.ends.items l.places.items l.invariant.1 l.invariant.2 c.loop-q-test.true l.invariant.0 (found.1 0) found.0,
-            l.invariant.1,
-            l.invariant.2,
-          )
-      | in_default w ↦
-          rw (w.ends-is, w.places-is) (
-            marked_past c.args.self.now c.args.count c.args.columns _ _ _ 0 l.ends.items l.places.items l.invariant.1 l.invariant.2 c.loop-q-test.true l.invariant.0 w.in_default.ensures.item.3,
-            l.invariant.1,
-            l.invariant.2,
-          )
+      | in-Some-get_mut w ↦ rw (w.ends-is, w.places-is) (marking_more c.loop-q.invariant c.loop-q-test.true w.in-Some-get_mut.next.now w.in-Some-get_mut.ensures.item.3)
+      | in_default w ↦ rw (w.ends-is, w.places-is) (marking_past c.loop-q.invariant c.loop-q-test.true w.in_default.ensures.item.3)
     ]
 
 pub loop-k-preserved : goal.loop-k-preserved
 loop-k-preserved c =
+    let s = c.in-Some.ensures.steps in
+    let next = next_row c.args.self.now c.next.new.self.b c.loop-k.k-iterator.a.start c.in-Some.row.now (sym c.loop-k.invariant.1 ∙ s.1) in
+    rw s.0.1.2 (rw s.0.1.1 at (marking_all c.loop-q.invariant (omega arith)), next.1, s.0.0 ∙ c.loop-k.invariant.2, omega (arith, s.0.1.0, c.loop-k.invariant.2))
+
+-- no row is left
+full : (c : In-None) → Filled (counts c.args.self.now c.args.count c.args.columns) (λ q. namers c.args.self.now q c.args.count) c.loop-k.ends.items c.loop-k.places.items
+full c =
     let rows = c.args.self.now in
     let k = c.loop-k.k-iterator.a.start in
-    let s = c.in-Some.ensures.steps in
-    let next = next_row rows c.next.new.self.b k c.in-Some.row.now (sym c.loop-k.invariant.1 ∙ s.1) in
-    rw s.0.1.2 (rw s.0.1.1 at (marked_all rows c.args.count c.args.columns c.in-Some.k c.in-Some.row.now c.loop-q.q-index _ _ (omega arith) c.loop-q.invariant.1 c.loop-q.invariant.0), next.1, s.0.0 ∙ c.loop-k.invariant.2, omega (arith, s.0.1.0, c.loop-k.invariant.2))
-
-full : (rows : List (List ℕ)) (count n k : ℕ) (ends places : List ℕ) → k ≤ count → (0 < count - k → drop k rows ≡ []) → Filled (counts rows count n) (λ q. namers rows q k) ends places
-    → Filled (counts rows count n) (λ q. namers rows q count) ends places
-full rows count n k ends places h past f =
-    let all : count - k + k ≡ count = omega arith in
-    subst (λ g. Filled (counts rows count n) g ends places) (λ i q. (sym (namers_past rows q k (count - k) past) ∙ ap (namers rows q) all) i) f
+    let d = c.args.count - k in
+    let past : 0 < d → drop k rows ≡ [] = λ z. sym c.loop-k.invariant.1 ∙ elim c.in-None.ensures.steps [ inl e ↦ absurd (omega (arith, e.1.1, c.loop-k.invariant.2)) | inr e ↦ e.1.0 ] in
+    let all : d + k ≡ c.args.count = omega (arith, c.loop-k.invariant.3) in
+    subst (λ g. Filled (counts rows c.args.count c.args.columns) g c.loop-k.ends.items c.loop-k.places.items) (λ i q. (sym (namers_past rows q k d past) ∙ ap (namers rows q) all) i) c.loop-k.invariant.0
 
 pub invariant_of-result : goal.invariant_of-result
-invariant_of-result c =
-    let l = c.loop-k in
-    rising_full (λ q. namers c.args.self.now q c.args.count) c.args.columns l.ends.items l.places.items (full c.args.self.now c.args.count c.args.columns l.k-iterator.a.start _ _ (omega (arith, l.invariant.3)) (λ z. sym l.invariant.1 ∙ elim c.in-None.ensures.steps [ inl e ↦ absurd (omega (arith, e.1.1, l.invariant.2)) | inr e ↦ e.1.0 ]) l.invariant.0)
+invariant_of-result c = rising_full (λ q. namers c.args.self.now q c.args.count) c.args.columns _ _ (full c)
 
 pub returns : goal.returns
-returns c =
-    let l = c.loop-k in
-    cuts_full (λ q. namers c.args.self.now q c.args.count) c.args.columns l.ends.items l.places.items (full c.args.self.now c.args.count c.args.columns l.k-iterator.a.start _ _ (omega (arith, l.invariant.3)) (λ z. sym l.invariant.1 ∙ elim c.in-None.ensures.steps [ inl e ↦ absurd (omega (arith, e.1.1, l.invariant.2)) | inr e ↦ e.1.0 ]) l.invariant.0)
+returns c = cuts_full (λ q. namers c.args.self.now q c.args.count) c.args.columns _ _ (full c)

@@ -1,14 +1,11 @@
-use Rattle.std.proofs.Common.{◌≡◌, ◌<◌, ◌≤◌, [], get_or, drop}
+use Rattle.std.proofs.Common.{◌≡◌, ◌≤◌, drop}
 use Rattle.rows.specs.Crossing.{namers}
 use Rattle.rows.proofs.Growing.{Filled}
-use Rattle.rows.proofs.Marking.{counts, held}
+use Rattle.rows.proofs.Marking.{counts, Marking}
 use Rattle.rows.proofs.Rows.crossing.Given as goal
 
 abbrev pub invariant-loop-q : goal.invariant-loop-q
-invariant-loop-q l =
-    Filled (counts l.self l.count l.columns) (held l.self l.count l.columns l.k l.row l.q-index) l.ends.items l.places.items
-    × (l.row ≡ get_or l.self l.k [])
-    × (l.k < l.count)
+invariant-loop-q l = Marking l.self l.count l.columns l.k l.q-index l.row l.ends.items l.places.items
 
 abbrev pub invariant-loop-k : goal.invariant-loop-k
 invariant-loop-k l =

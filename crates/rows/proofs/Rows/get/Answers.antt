@@ -1,6 +1,5 @@
-use Rattle.std.proofs.Common.{◌≡◌, List, ℕ, ◌<◌, ◌≤◌, ◌∷◌, length, get_or, sym, refl, ap, ◌∙◌, arith, rules}
+use Rattle.std.proofs.Common.{◌≡◌, List, ℕ, ◌<◌, ◌≤◌, length, get_or, sym, refl, ap, ◌∙◌, arith, rules}
 use Rattle.std.proofs.lemmas.List.{get_or_past}
-use Rattle.rows.specs.Cut.{cut}
 use Rattle.rows.proofs.Cuts.{rising_at, cut_at, length_cuts}
 use Rattle.rows.proofs.Rows.get.Goals as goal
 

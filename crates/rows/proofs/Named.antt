@@ -1,8 +1,10 @@
 -- How often rows name a number: one number more, one row more, and no more than in all.
-use Rattle.std.proofs.Common.{◌≡◌, ℕ, zero, suc, ◌+◌, ◌-◌, ◌<◌, ◌≤◌, Bool, true, false, cond, eqb, List, [], ◌∷◌, ◌++◌, length, get_or, take, drop, replicate, sym, refl, ap, ◌∙◌, append-nil, add-one, arith}
+use Rattle.std.proofs.Common.{◌≡◌, ℕ, zero, suc, ◌+◌, ◌-◌, ◌<◌, ◌≤◌, Bool, true, false, cond, eqb, List, [], ◌∷◌, ◌++◌, length, get_or, take, drop, replicate, sym, refl, ap, ◌∙◌, append-nil, add-one, arith, ltb, ltb-true, ltb-false}
 use Rattle.std.proofs.Math.Seq.{drop-cons}
-use Rattle.std.proofs.lemmas.List.{get_or_past, length-append, length-drop, length-replicate, replicate-append-replicate}
-use Rattle.std.proofs.lemmas.List.Sums.{sum_by_more, sum_by-take-le}
+use Rattle.std.proofs.lemmas.List.{get_or_past, take_more, take_all, length-append, length-drop, length-replicate, replicate-append-replicate}
+use Rattle.std.proofs.lemmas.List.Sums.{sum_by_more, sum_by-append, sum_by-take-le}
+use Rattle.std.proofs.lemmas.List.Folds.{concat-append}
+use Rattle.std.specs.List.{concat}
 use Rattle.rows.specs.Crossing.{times, namings, namers}
 
 pub times_more : (row : List ℕ) (i q : ℕ) → i < length row → times q (take (i + 1) row) ≡ times q (take i row) + cond (eqb q (get_or row i 0)) 1 0
@@ -17,18 +19,6 @@ namings_more row i q k h =
     ap (λ n. replicate n k) (times_more row i q h)
     ∙ sym (replicate-append-replicate (times q (take i row)) (cond (eqb q (get_or row i 0)) 1 0) k)
     ∙ ap (λ l. namings q k (take i row) ++ l) (one_as (eqb q (get_or row i 0)) k)
-
--- a row's front and the next number are within the row
-pub namings_within : (row : List ℕ) (i q k : ℕ) → i < length row → length (namings q k (take i row)) + length (cond (eqb q (get_or row i 0)) (k ∷ []) []) ≤ length (namings q k row)
-namings_within row i q k h =
-    omega (
-      arith,
-      ap length (namings_more row i q k h),
-      length-append (namings q k (take i row)) (cond (eqb q (get_or row i 0)) (k ∷ []) []),
-      length-replicate (times q (take (i + 1) row)) k,
-      length-replicate (times q row) k,
-      sum_by-take-le (λ x. cond (eqb q x) 1 0) row (i + 1),
-    )
 
 -- the row that comes next, where some are left
 pub next_row : (rows later : List (List ℕ)) (k : ℕ) (row : List ℕ) → drop k rows ≡ row ∷ later → (row ≡ get_or rows k []) × (later ≡ drop (k + 1) rows)
@@ -73,3 +63,32 @@ module _ (rows : List (List ℕ)) (q : ℕ) where
       go : (d : ℕ) → n ≡ d + (k + 1) → length (namers rows q k) + length (namings q k (get_or rows k [])) ≤ length (namers rows q n)
       go d e =
           omega (arith, ap (λ (m : ℕ). length (namers rows q m)) e, front (k + 1) d, length_namers_more k, length-replicate (times q (get_or rows k [])) k)
+
+  -- a row that is gone over in part is within the whole
+  pub namers_fit : (k n : ℕ) (row : List ℕ) (i : ℕ) → row ≡ get_or rows k [] → k < n → length (namers rows q k ++ namings q k (take i row)) ≤ length (namers rows q n)
+  namers_fit k n row i is h =
+      omega (
+        arith,
+        length-append (namers rows q k) (namings q k (take i row)),
+        length-replicate (times q (take i row)) k,
+        length-replicate (times q row) k,
+        ap (λ l. length (namings q k l)) is,
+        sum_by-take-le (λ x. cond (eqb q x) 1 0) row i,
+        namers_within k n h,
+      )
+
+  -- the rows that come first name a number as often as they do in one
+  pub length_namers : (n : ℕ) → length (namers rows q n) ≡ times q (concat (take n rows))
+  length_namers zero = refl
+  length_namers (suc n) = omega (arith, length-append (namers rows q n) (namings q n (get_or rows n [])), length-replicate (times q (get_or rows n [])) n, length_namers n, one_more (ltb n (length rows)) refl)
+    where
+      one_more : (b : Bool) → ltb n (length rows) ≡ b → times q (concat (take (suc n) rows)) ≡ times q (concat (take n rows)) + times q (get_or rows n [])
+      one_more true e =
+          let row = get_or rows n [] in
+          let more : take (suc n) rows ≡ take n rows ++ row ∷ [] = rw (← add-one n) (take_more rows n [] (ltb-true n (length rows) e)) in
+          ap (times q) (ap concat more ∙ concat-append (take n rows) (row ∷ []) ∙ ap (λ l. concat (take n rows) ++ l) (append-nil row))
+          ∙ sum_by-append (λ x. cond (eqb q x) 1 0) (concat (take n rows)) row
+      one_more false e =
+          let past : length rows ≤ n = omega (arith, ltb-false n (length rows) e) in
+          let none : times q (get_or rows n []) ≡ 0 = ap (times q) (get_or_past rows n [] past) in
+          omega (arith, none, ap (λ l. times q (concat l)) (take_all (suc n) rows (omega arith) ∙ sym (take_all n rows past)))

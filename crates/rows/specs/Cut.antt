@@ -1,15 +1,16 @@
--- Parts of a list.
-use Rattle.std.specs.Prelude.{ℕ, ◌+◌, ◌<◌, ◌≤◌, List, length, take, drop, slice_index_or}
-use Rattle.rows.specs.declared.Span.{Span}
+-- Parts of a list, one after another, given by where each ends.
+use Rattle.std.specs.Prelude.{◌≡◌, ℕ, ◌-◌, ◌≤◌, List, [], ◌∷◌, take, drop}
 
--- the empty part
-abbrev pub none : Span
-none = record { start = 0; len = 0 }
+-- the part between two places
+abbrev pub cut : List ℕ → ℕ → ℕ → List ℕ
+cut places start end = take (end - start) (drop start places)
 
--- the part that a span names
-abbrev pub cut : List ℕ → Span → List ℕ
-cut places s = take s.len (drop s.start places)
+-- the parts with these ends: the first starts at `start`, and each other one where the one before it ends
+abbrev pub cuts : List ℕ → ℕ → List ℕ → List (List ℕ)
+cuts places start [] = []
+cuts places start (end ∷ ends) = cut places start end ∷ cuts places end ends
 
--- every span ends at n or before
-abbrev pub Within : ℕ → List Span → Type 0
-Within n spans = (k : ℕ) → k < length spans → (slice_index_or spans k none).start + (slice_index_or spans k none).len ≤ n
+-- from `start` on no end is below the one before it, and the last one is n
+abbrev pub Rising : ℕ → List ℕ → ℕ → Type 0
+Rising start [] n = start ≡ n
+Rising start (end ∷ ends) n = (start ≤ end) × Rising end ends n

@@ -1,4 +1,3 @@
 pub mod Cut
 pub mod Crossing
-pub mod Growing
-pub mod Columns
+pub mod Laid

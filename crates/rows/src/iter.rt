@@ -2,26 +2,28 @@
 ghost use Rattle.std.specs.Prelude.{◌≡◌};
 ghost use Rattle.std.specs.Iterator.{YieldsFirstRef, item_count};
 
-use super::{Rows, Span};
+use super::Rows;
+use super::part::part;
 use std::marker::Model;
 
 /// The rows from some row on.
 #[derive(Drop)]
 pub struct Iter<'a> {
     places: &'a [u16],
-    spans: &'a [Span],
+    start: usize,
+    ends: &'a [usize],
 }
 
 impl<'a> Model for Iter<'a> {
-    ghost use Rattle.std.specs.Prelude.{ℕ, List, map, length};
-    ghost use Rattle.rows.specs.Cut.{cut, Within};
+    ghost use Rattle.std.specs.Prelude.{ℕ, List, length};
+    ghost use Rattle.rows.specs.Cut.{cuts, Rising};
 
     // the rows that are left
     ghost Value = { List (List ℕ) };
 
-    ghost view = { λ r. map (cut r.places.now) r.spans.now };
+    ghost view = { λ r. cuts r.places.now r.start r.ends.now };
 
-    ghost invariant = { λ r. Within (length r.places.now) r.spans.now };
+    ghost invariant = { λ r. Rising r.start r.ends.now (length r.places.now) };
 }
 
 impl Rows {
@@ -31,7 +33,8 @@ impl Rows {
     {
         Iter {
             places: &self.places,
-            spans: &self.spans,
+            start: 0,
+            ends: &self.ends,
         }
     }
 }
@@ -44,8 +47,10 @@ impl<'a> Iterator for Iter<'a> {
     ghost remaining = { item_count (λ rows. rows) };
 
     fn next(&mut self) -> Option<&'a [u16]> {
-        let (span, later) = self.spans.split_first()?;
-        self.spans = later;
-        Some(span.of(self.places))
+        let (end, later) = self.ends.split_first()?;
+        let row = part(self.places, self.start, *end);
+        self.start = *end;
+        self.ends = later;
+        Some(row)
     }
 }

@@ -2,7 +2,7 @@
 ghost use Rattle.std.specs.Prelude.{◌≡◌, [], ◌∷◌, ◌++◌, is_ok, if◌then◌else◌};
 ghost use Rattle.code.specs.Whole.{row_told};
 
-use super::{Rows, Span};
+use super::Rows;
 use code::Code;
 use std::alloc::AllocError;
 use terms::row::Row;
@@ -13,11 +13,9 @@ impl Rows {
     pub fn push_row_of<C: Code>(&mut self, code: &C, row: Row) -> Result<(), AllocError>
         ensures { self.new ≡ (if is_ok result then self.old ++ row_told (C.meaning code.now) (C.told code.now) row ∷ [] else self.old) }
     {
-        let start = self.places.len();
-        self.spans.reserve(1)?;
+        self.ends.reserve(1)?;
         code.tell_row(row, &mut self.places)?;
-        let len = self.places.len() - start;
-        self.spans.push_reserved(Span { start, len });
+        self.ends.push_reserved(self.places.len());
         Ok(())
     }
 }

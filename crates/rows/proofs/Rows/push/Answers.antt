@@ -1,13 +1,13 @@
-use Rattle.std.proofs.Common.{[], ◌∷◌, ◌++◌, length, refl, ap, ◌∙◌, arith}
-use Rattle.rows.specs.declared.Span.{Span}
-use Rattle.rows.proofs.Cuts.{cuts_more}
+use Rattle.std.proofs.Common.{arith}
+use Rattle.rows.proofs.Cuts.{cuts_push, rising_push}
 use Rattle.rows.proofs.Rows.push.Goals as goal
+
+pub invariant_of-self-2 : goal.invariant_of-self-2
+invariant_of-self-2 c =
+    rw (c.push_reserved.ensures.items, c.in_ok-reserve.ensures.items) (
+    rising_push c.self.inside.places.items c.args.row.now _ c.len.result c.in_ok-extend_from_slice.ensures.items (omega arith) 0 c.self.inside.ends.items c.self.invariant)
 
 pub returns : goal.returns
 returns c =
-    let r = c.self.inside in
-    let row = c.args.row.now in
-    let span : Span = record { start = c.len.result; len = length row } in
-    cuts_more r.places.items row _ r.spans.items _ span (omega arith) refl
-    c.in_ok-extend_from_slice.ensures.items (c.push_reserved.ensures.items ∙ ap (λ l. l ++ span ∷ []) c.in_ok-reserve.ensures.items) c.self.invariant
-    ∙ ap (λ l. l ++ row ∷ []) c.self.view_is
+    rw (c.push_reserved.ensures.items, c.in_ok-reserve.ensures.items, ← c.self.view_is) (
+    cuts_push c.self.inside.places.items c.args.row.now _ c.len.result c.in_ok-extend_from_slice.ensures.items (omega arith) 0 c.self.inside.ends.items c.self.invariant)

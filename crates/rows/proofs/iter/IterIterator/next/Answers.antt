@@ -1,6 +1,10 @@
-use Rattle.std.proofs.Common.{suc, subst, arith}
-use Rattle.rows.specs.Cut.{Within}
+use Rattle.std.proofs.Common.{length, subst}
+use Rattle.rows.specs.Cut.{Rising}
+use Rattle.rows.proofs.Cuts.{rising_le}
 use Rattle.rows.proofs.iter.IterIterator.next.Goals as goal
 
-pub invariant_of-self : goal.invariant_of-self
-invariant_of-self c k h = subst (Within _) c.in_ok-span.ensures.cases.0 c.self.invariant (suc k) (omega arith)
+pub part-row-requires : goal.part-row-requires
+part-row-requires c =
+    let r = c.self.inside in
+    let rising = subst (λ l. Rising r.start l (length r.places.now)) c.in_ok-end.ensures.cases.0 c.self.invariant in
+    (rising.0, rising_le _ _ _ rising.1)

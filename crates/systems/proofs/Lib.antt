@@ -1,0 +1,5 @@
+pub mod Places
+pub mod Rows
+pub mod Asking
+pub mod Stating
+pub mod Searching

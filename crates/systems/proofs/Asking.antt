@@ -1,5 +1,5 @@
 -- What an elimination answers for the unknowns alone, in the words of the rules.
-use Rattle.std.proofs.Common.{◌≡◌, ℕ, zero, suc, ◌+◌, ◌^◌, ◌<◌, ◌≤◌, ◌≢◌, Option, Some, None, Bool, true, false, not, ◌&&◌, ◌||◌, eqb, cond, List, [], ◌∷◌, ◌++◌, map, length, set, replicate, sym, refl, ap, ◌∙◌, subst, ap₂, inl, inr, true≢false, arith, eqb-true, length-set, get_or-set_same, get_or-set_other, pow_pos}
+use Rattle.std.proofs.Common.{◌≡◌, ℕ, zero, suc, ◌^◌, ◌<◌, Option, Some, None, Bool, true, false, not, ◌||◌, eqb, cond, List, [], ◌∷◌, map, length, set, replicate, sym, refl, ap, ◌∙◌, subst, inl, inr, true≢false, arith, eqb-true, length-set, get_or-set_same, get_or-set_other, pow_pos}
 use lib.ListN.{length-map, length-replicate}
 use Rattle.std.proofs.lemmas.Bool.{and_parts, and_from, false_from_ne_true, true_from_ne_false}
 use borrow.Author.Tests.{eqb-false}
@@ -8,23 +8,21 @@ use Rattle.sets.specs.Lists.{In}
 use Rattle.sets.specs.Sets.{has, row, odd, size, only, among as listed}
 use Rattle.sets.proofs.Bits.{alike_same, same_alike}
 use Rattle.sets.proofs.Sets.{has_below, only_self, only_other, length_only}
-use Rattle.sets.proofs.Numbers.{eqb_same, in_among}
+use Rattle.sets.proofs.Numbers.{in_among}
 use Rattle.meaning.specs.Meaning.{Meaning}
 use Rattle.linear.specs.Field.{bits}
-use Rattle.linear.specs.Basis.{dot}
 use Rattle.linear.specs.Compress.{compress}
-use Rattle.linear.specs.System.{Row, keep, solutions as over_unknowns}
+use Rattle.linear.specs.System.{keep, solutions as over_unknowns}
 use Rattle.linear.specs.Subsets.{subsets, explains}
 use Rattle.linear.proofs.Subsets.{solutions_subsets, dot_odd}
 use Rattle.linear.proofs.Sorted.{in_keep, of_keep}
 use Rattle.elimination.specs.Holds.{Zeros}
-use Rattle.elimination.specs.Calls.{check, First, Power, Independent}
-use Rattle.rules.specs.Systems.{solutions, log2, slack}
+use Rattle.elimination.specs.Calls.{First, Power, Independent}
+use Rattle.rules.specs.Systems.{solutions, log2}
 use Rattle.rules.proofs.Solutions.{slack_pow, in_subsets, of_subsets}
 use Rattle.systems.specs.Spread.{spread}
 use Rattle.systems.specs.Stated.{equation}
 use Rattle.systems.specs.Asked.{slack_if_any, free_beside}
-use Rattle.systems.proofs.Places.{among_more}
 use Rattle.systems.proofs.Rows.{spread_solutions}
 
 -- the first of the solutions over the unknowns, spread, is the first of the solutions
@@ -113,6 +111,6 @@ module _ (M : Meaning) (k among odds : List Bool) (order : List ℕ) (a : length
           let u = of_subsets (replicate (size k) true) x r.0 in
           let both = and_parts (alike (odd (compress bits k (row M.checks c)) x) (has (only (length M.checks) c) c)) (explains (map (equation M k (only (length M.checks) c)) order) x) r.1 in
           true≢false (
-            sym (dot_odd (compress bits k (row M.checks c)) x ∙ alike_same (odd (compress bits k (row M.checks c)) x) (has (only (length M.checks) c) c) both.0 ∙ only_self (length M.checks) c low)
-            ∙ off x (u.long ∙ length-replicate (size k) true) (explain_zeros M k odds (only (length M.checks) c) order x none_odd both.1)
+          sym (dot_odd (compress bits k (row M.checks c)) x ∙ alike_same (odd (compress bits k (row M.checks c)) x) (has (only (length M.checks) c) c) both.0 ∙ only_self (length M.checks) c low)
+          ∙ off x (u.long ∙ length-replicate (size k) true) (explain_zeros M k odds (only (length M.checks) c) order x none_odd both.1)
           )

@@ -1,12 +1,12 @@
 -- Places of unknowns, and a check's coefficients at them, written one after another.
-use Rattle.std.proofs.Common.{◌≡◌, ℕ, zero, suc, ◌+◌, ◌<◌, ◌≤◌, ◌≢◌, Bool, true, false, ◌||◌, eqb, List, [], ◌∷◌, ◌++◌, map, length, get_or, take, set, replicate, sym, refl, ap, ◌∙◌, subst, ap₂, inl, inr, true≢false, arith, eqb-true}
+use Rattle.std.proofs.Common.{◌≡◌, ℕ, zero, suc, ◌+◌, ◌<◌, ◌≤◌, ◌≢◌, Bool, true, false, ◌||◌, eqb, List, [], ◌∷◌, ◌++◌, map, length, get_or, take, replicate, sym, refl, ap, ◌∙◌, subst, ap₂, inl, inr, true≢false, arith, eqb-true}
 use Rattle.std.proofs.lemmas.List.{take_more, take_all}
 use Rattle.std.proofs.lemmas.Bool.{false_from_ne_true}
 use Rattle.sets.specs.Bits.{flip}
 use Rattle.sets.specs.Lists.{In, Distinct}
 use Rattle.sets.specs.Sets.{has, size, elements, elements_from, among}
 use Rattle.sets.proofs.Lists.{in_get_or}
-use Rattle.sets.proofs.Numbers.{eqb_same, in_among, among_in, elements_low, elements_distinct, length_elements}
+use Rattle.sets.proofs.Numbers.{eqb_same, in_among, elements_low, elements_distinct, length_elements}
 use Rattle.linear.specs.Field.{bits}
 use Rattle.linear.specs.Compress.{compress}
 use Rattle.linear.specs.Basis.{hd, tl}

@@ -1,11 +1,11 @@
 -- A system as it is begun, and with one check more.
-use Rattle.std.proofs.Common.{◌≡◌, ℕ, ◌<◌, ◌≤◌, Option, Result, Ok, Err, Some, None, Bool, true, false, ◌||◌, eqb, List, [], ◌∷◌, ◌++◌, map, length, set, replicate, sym, refl, ap, ◌∙◌, subst, arith, eqb-true, length-set, get_or-set_same, get_or-set_other}
+use Rattle.std.proofs.Common.{◌≡◌, ℕ, ◌<◌, Option, Result, Ok, Err, Some, None, Bool, true, false, ◌||◌, eqb, List, [], ◌∷◌, ◌++◌, map, length, set, replicate, sym, refl, ap, ◌∙◌, subst, arith, eqb-true, length-set, get_or-set_same, get_or-set_other}
 use lib.ListN.{length-replicate}
 use borrow.Author.Tests.{eqb-false}
 use Rattle.std.proofs.lemmas.List.{map-append}
 use Rattle.terms.specs.Answering.{Answers}
 use Rattle.terms.specs.declared.refusal.Refusal.{Refusal}
-use Rattle.sets.specs.Sets.{has, row, size, empty, among as listed}
+use Rattle.sets.specs.Sets.{has, row, size, empty}
 use Rattle.sets.proofs.Sets.{has_empty}
 use Rattle.meaning.specs.Meaning.{Meaning}
 use Rattle.linear.specs.Field.{bits}
@@ -14,7 +14,6 @@ use Rattle.linear.specs.Compress.{compress}
 use Rattle.elimination.specs.declared.Elimination.{Elimination}
 use Rattle.elimination.specs.Holds.{Holds}
 use Rattle.elimination.specs.Calls.{check}
-use Rattle.systems.specs.declared.System.{System}
 use Rattle.systems.specs.Stated.{Stated, equation}
 use Rattle.systems.proofs.Places.{among_more}
 

@@ -1,5 +1,6 @@
 pub mod Places
 pub mod Rows
-pub mod Asking
-pub mod Stating
+pub mod Answers
+pub mod Begun
+pub mod Sorting
 pub mod Searching

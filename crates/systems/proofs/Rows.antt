@@ -19,7 +19,7 @@ use Rattle.linear.proofs.Compress.{solutions_expand}
 use Rattle.elimination.specs.Calls.{check}
 use Rattle.rules.specs.Systems.{rows, solutions}
 use Rattle.rules.proofs.Solutions.{of_explains, in_explains}
-use Rattle.systems.specs.Spread.{spread}
+use Rattle.systems.specs.Told.{spread}
 use Rattle.systems.specs.Stated.{equation}
 
 -- what the check c says of all qubits

@@ -1,3 +1,2 @@
-pub mod Spread
+pub mod Told
 pub mod Stated
-pub mod Asked

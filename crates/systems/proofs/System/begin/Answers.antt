@@ -1,16 +1,23 @@
-use Rattle.std.proofs.Common.{ℕ, false, [], length, replicate, sym, ap, ◌∙◌, subst}
-use Rattle.terms.specs.Answering.{Answers}
-use Rattle.sets.proofs.Numbers.{length_elements}
-use Rattle.linear.specs.Field.{bits}
-use Rattle.elimination.specs.Holds.{Holds}
-use Rattle.elimination.specs.Calls.{too_many}
-use Rattle.systems.proofs.Stating.{answers_more, begun}
+use Rattle.std.proofs.Common.{◌≡◌, ℕ, ◌-◌, ◌≤◌, List, length, take, drop, sym, ap, ◌∙◌, subst, arith}
+use Rattle.std.specs.List.Sorted.{IsPermutation}
+use Rattle.std.proofs.lemmas.List.{take_at, length-take-le}
+use Rattle.sets.proofs.Numbers.{told_once}
+use Rattle.elimination.proofs.Lists.{put_back}
+use Rattle.systems.proofs.Begun.{answers_more, begun}
+use Rattle.systems.proofs.Sorting.{sorted_told}
 use Rattle.systems.proofs.System.begin.Goals as goal
 
 pub returns-clause-begun : goal.returns-clause-begun
 returns-clause-begun c =
-    let n : ℕ = c.in-Ok.count in
-    let same = c.in-Ok.ensures.1 in
+    let l = c.args.qubits.now in
+    let n : ℕ = length l in
+    let D = c.deref_mut.result.now in
+    let S = c.sort_unstable.new.self in
+    let long : length S ≡ n = c.sort_unstable.ensures.len ∙ ap length c.copy_from_slice.ensures.after in
+    let moved : IsPermutation l S = subst (λ (m : List ℕ). IsPermutation m S) c.copy_from_slice.ensures.after c.sort_unstable.ensures.permutation in
+    let room : n ≤ length D = omega (arith, c.if-count-gt-MOST.false, c.deref_mut.ensures.len, c.args.self.now.room) in
+    let zero : n - 0 ≡ n = omega arith in
+    let kept = put_back c.args.self.now.unknowns (n - 0) D S (long ∙ sym (ap (λ i. length (take i D)) zero ∙ length-take-le n D room)) c.deref_mut.ensures.len in
     answers_more c.begin.result _ _ _
-    (λ x h M k odds e o. begun c.begin.new.self M k odds n (sym (length_elements 0 k) ∙ ap length e ∙ sym same) o h)
-    (subst (λ (m : ℕ). Answers c.begin.result (too_many m) (λ x. Holds bits c.begin.new.self n [] (replicate n false))) same c.begin.ensures.begun)
+    (λ x h M k odds t o. begun _ M k odds n (sorted_told k l S t moved c.sort_unstable.ensures.sorted ∙ sym (ap (take n) kept ∙ take_at S (drop (n - 0) D) n long)) (sym (told_once l k t.once t.names)) o h)
+    c.begin.ensures.begun

@@ -5,16 +5,16 @@ use borrow.Author.Tests.{eqb-false}
 use Rattle.std.proofs.lemmas.List.{map-append}
 use Rattle.terms.specs.Answering.{Answers}
 use Rattle.terms.specs.declared.refusal.Refusal.{Refusal}
-use Rattle.sets.specs.Sets.{has, row, size, empty}
+use Rattle.sets.specs.Sets.{has, row, size, elements, empty}
 use Rattle.sets.proofs.Sets.{has_empty}
 use Rattle.meaning.specs.Meaning.{Meaning}
 use Rattle.linear.specs.Field.{bits}
 use Rattle.linear.specs.System.{Row}
 use Rattle.linear.specs.Compress.{compress}
-use Rattle.elimination.specs.declared.Elimination.{Elimination}
 use Rattle.elimination.specs.Holds.{Holds}
 use Rattle.elimination.specs.Calls.{check}
-use Rattle.systems.specs.Stated.{Stated, equation}
+use Rattle.systems.specs.declared.System.{System}
+use Rattle.systems.specs.Stated.{Stated, equation, unknowns_of}
 use Rattle.systems.proofs.Places.{among_more}
 
 pub answers_more : {X : Type 0} (r : Result X Refusal) (f : Option Refusal) (P Q : X → Type 0) → ((x : X) → P x → Q x) → Answers r f P → Answers r f Q
@@ -23,32 +23,34 @@ answers_more (Ok x) None P Q h a = h x a
 answers_more (Err e) (Some f) P Q h a = a
 answers_more (Err e) None P Q h a = a
 
-pub begun : (e : Elimination Bool) (M : Meaning) (k odds : List Bool) (n : ℕ) → size k ≡ n → length odds ≡ length M.checks → Holds bits e n [] (replicate n false)
-    → Stated (record { elimination = e }) M k (empty (length M.checks)) odds
-begun e M k odds n s o h =
+pub begun : (e : System) (M : Meaning) (k odds : List Bool) (n : ℕ) → elements k ≡ unknowns_of e → size k ≡ n → length odds ≡ length M.checks → Holds bits e.elimination n [] (replicate n false)
+    → Stated e M k (empty (length M.checks)) odds
+begun e M k odds n u s o h =
     record {
       among_range = length-replicate (length M.checks) false;
       odds_range = o;
+      unknowns = u;
       order = [];
-      held = subst (λ (m : ℕ). Holds bits e m [] (replicate m false)) (sym s) h;
+      held = subst (λ (m : ℕ). Holds bits e.elimination m [] (replicate m false)) (sym s) h;
       named = λ d _. sym (has_empty (length M.checks) d);
     }
 
-module _ (e e' : Elimination Bool) (M : Meaning) (k among odds : List Bool) (s : Stated (record { elimination = e }) M k among odds) where
+module _ (e e' : System) (M : Meaning) (k among odds : List Bool) (s : Stated e M k among odds) (u : unknowns_of e' ≡ unknowns_of e) where
   -- with the same system
-  pub still : Holds bits e' (size k) (map (equation M k odds) s.order) (replicate (size k) false) → Stated (record { elimination = e' }) M k among odds
-  still h = record { among_range = s.among_range; odds_range = s.odds_range; order = s.order; held = h; named = s.named }
+  pub still : Holds bits e'.elimination (size k) (map (equation M k odds) s.order) (replicate (size k) false) → Stated e' M k among odds
+  still h = record { among_range = s.among_range; odds_range = s.odds_range; unknowns = s.unknowns ∙ sym u; order = s.order; held = h; named = s.named }
 
   -- with the check c besides
-  pub added : (c : ℕ) (odd : Bool) → odd ≡ has odds c → Holds bits e' (size k) (map (equation M k odds) s.order ++ check (compress bits k (row M.checks c)) odd ∷ []) (replicate (size k) false)
-      → Stated (record { elimination = e' }) M k (set among c true) odds
+  pub added : (c : ℕ) (odd : Bool) → odd ≡ has odds c → Holds bits e'.elimination (size k) (map (equation M k odds) s.order ++ check (compress bits k (row M.checks c)) odd ∷ []) (replicate (size k) false)
+      → Stated e' M k (set among c true) odds
   added c odd o h =
       record {
         among_range = length-set among c true ∙ s.among_range;
         odds_range = s.odds_range;
+        unknowns = s.unknowns ∙ sym u;
         order = s.order ++ c ∷ [];
         held =
-            subst (λ (l : List (Row Bool)). Holds bits e' (size k) l (replicate (size k) false))
+            subst (λ (l : List (Row Bool)). Holds bits e'.elimination (size k) l (replicate (size k) false))
             (ap (λ b. map (equation M k odds) s.order ++ check (compress bits k (row M.checks c)) b ∷ []) o ∙ sym (map-append (equation M k odds) s.order (c ∷ []))) h;
         named = λ d l. among_more s.order c d ∙ ap (λ b. b || eqb d c) (s.named d l) ∙ go d l (eqb d c) refl (has among d) refl;
       }

@@ -1,7 +1,7 @@
 use Rattle.std.proofs.Common.{length, ap, arith}
 use Rattle.sets.proofs.Numbers.{length_elements}
 use Rattle.systems.proofs.Searching.{found, not_found, fits}
-use Rattle.systems.proofs.place_of.Goals as goal
+use Rattle.systems.proofs.stating.place_of.Goals as goal
 
 pub returns-in_err-place : goal.returns-in_err-place
 returns-in_err-place c k e h = rw c.from_residual.ensures (not_found k c.args.unknowns.now e c.args.qubit c.binary_search.result c.binary_search.ensures.position c.in_err-place.ensures.value)

@@ -1,7 +1,8 @@
 -- What an elimination answers for the unknowns alone, in the words of the rules.
-use Rattle.std.proofs.Common.{◌≡◌, ℕ, zero, suc, ◌^◌, ◌<◌, Option, Some, None, Bool, true, false, not, ◌||◌, eqb, cond, List, [], ◌∷◌, map, length, set, replicate, sym, refl, ap, ◌∙◌, subst, inl, inr, true≢false, arith, eqb-true, length-set, get_or-set_same, get_or-set_other, pow_pos}
+use Rattle.std.proofs.Common.{◌≡◌, ℕ, zero, suc, ◌^◌, ◌<◌, Option, Some, None, Bool, true, false, not, ◌||◌, eqb, List, [], ◌∷◌, map, length, set, replicate, sym, refl, ap, ◌∙◌, subst, inl, inr, true≢false, arith, eqb-true, length-set, get_or-set_same, get_or-set_other}
 use lib.ListN.{length-map, length-replicate}
 use Rattle.std.proofs.lemmas.Bool.{and_parts, and_from, false_from_ne_true, true_from_ne_false}
+use Rattle.std.specs.Option.{IfNone}
 use borrow.Author.Tests.{eqb-false}
 use Rattle.sets.specs.Bits.{alike}
 use Rattle.sets.specs.Lists.{In}
@@ -20,23 +21,20 @@ use Rattle.elimination.specs.Holds.{Zeros}
 use Rattle.elimination.specs.Calls.{First, Power, Independent}
 use Rattle.rules.specs.Systems.{solutions, log2}
 use Rattle.rules.proofs.Solutions.{slack_pow, in_subsets, of_subsets}
-use Rattle.systems.specs.Spread.{spread}
 use Rattle.systems.specs.Stated.{equation}
-use Rattle.systems.specs.Asked.{slack_if_any, free_beside}
+use Rattle.systems.specs.Told.{Found, spread, free_beside}
 use Rattle.systems.proofs.Rows.{spread_solutions}
 
--- the first of the solutions over the unknowns, spread, is the first of the solutions
-pub first_spread : (k : List Bool) (found : List (List Bool)) (r : Bool) (x : List Bool) → First r found x → First r (map (spread k) found) (spread k x)
-first_spread k found true x h = (map (spread k) h.0, ap (map (spread k)) h.1)
-first_spread k found false x h = ap (map (spread k)) h
+-- no solution over the unknowns, no solution
+pub none_spread : (k : List Bool) (found : List (List Bool)) → found ≡ [] → map (spread k) found ≡ []
+none_spread k found = ap (map (spread k))
 
--- as many as a power of two
-pub slack_spread : (k : List Bool) (found : List (List Bool)) (r : Option ℕ) → Power bits found r → r ≡ slack_if_any (map (spread k) found)
-slack_spread k found None h = sym (ap (λ l. slack_if_any (map (spread k) l)) h)
-slack_spread k found (Some s) h =
-    let many : length (map (spread k) found) ≡ 2 ^ s = length-map found (spread k) ∙ h in
-    let none : eqb (2 ^ s) 0 ≡ false = false_from_ne_true (eqb (2 ^ s) 0) (λ t. let z : 2 ^ s ≡ 0 = eqb-true (2 ^ s) 0 t in absurd (omega (arith, pow_pos s))) in
-    sym (ap (λ n. cond (eqb n 0) None (Some (log2 n n))) many ∙ ap (λ b. cond b None (Some (log2 (2 ^ s) (2 ^ s)))) none ∙ ap (λ n. Some n) (slack_pow s))
+-- the first of the solutions over the unknowns, spread, is the first; and where they are 2 ^ s, the slack is s
+pub found_spread : (k : List Bool) (found : List (List Bool)) (x : List Bool) (o : Option ℕ) → First true found x → Power bits found o → (E : Type 0) → Found (map (spread k) found) o (spread k x) × IfNone o E
+found_spread k found x None h p E = let none : length found ≡ 0 = ap length p in let some : length found ≡ suc (length h.0) = ap length h.1 in absurd (omega arith)
+found_spread k found x (Some s) h p E =
+    let many : length (map (spread k) found) ≡ 2 ^ s = length-map found (spread k) ∙ p in
+    ((map (spread k) h.0, ap (map (spread k)) h.1, ap (λ n. log2 n n) many ∙ slack_pow s), tt)
 
 -- over the unknowns, being zero on the left side of each check is being even on each that is not of `odds`
 module _ (M : Meaning) (k odds₀ odds : List Bool) where

@@ -9,6 +9,7 @@ ghost use Rattle.linear.specs.Compress.{compress};
 ghost use Rattle.elimination.specs.Holds.{Holds};
 ghost use Rattle.elimination.specs.Calls.{too_many};
 ghost use Rattle.table.specs.OfTable.{meaning_of};
+ghost use Rattle.upkeep.specs.Changed.{marked};
 ghost use Rattle.systems.specs.Told.{ToldOnce};
 ghost use Rattle.systems.specs.Stated.{Stated, KeptIfRefused, unknowns_of};
 
@@ -56,6 +57,15 @@ impl System {
         self.elimination.add(odd);
     }
 
+    /// Adds these checks, each odd if it is marked so.
+    pub fn add_all(&mut self, table: &Table, checks: &[u16], odd: &[bool])
+        ensures { (k among : List Bool) → Stated self.old (meaning_of table.now) k among odd.now → Stated self.new (meaning_of table.now) k (marked checks.now among) odd.now }
+    {
+        for check in checks {
+            self.add(table, *check, is_marked(odd, *check));
+        }
+    }
+
     /// Writes the coefficients of a check at the unknowns.
     pub(crate) fn write(&mut self, table: &Table, check: u16)
         ensures written { (k : List Bool) (rows : List (Equation Bool)) → elements k ≡ unknowns_of self.old → Holds bits self.old.elimination (size k) rows (replicate (size k) false) → Holds bits self.new.elimination (size k) rows (compress bits k (row (meaning_of table.now).checks check)) }
@@ -76,4 +86,11 @@ fn place_of(unknowns: &[u16], qubit: u16) -> Option<u16>
 {
     let place = unknowns.binary_search(&qubit).ok()?;
     u16::try_from(place).ok()
+}
+
+/// Whether a place is marked. One past the end is not.
+fn is_marked(marks: &[bool], place: u16) -> bool
+    ensures { result ≡ has marks.now place }
+{
+    marks.get(usize::from(place)) == Some(&true)
 }

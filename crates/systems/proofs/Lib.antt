@@ -4,3 +4,4 @@ pub mod Answers
 pub mod Begun
 pub mod Sorting
 pub mod Searching
+pub mod Reading

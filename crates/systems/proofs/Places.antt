@@ -109,11 +109,11 @@ pub written_none : (k : List Bool) → replicate (size k) false ≡ written_of k
 unfolding written_of
 written_none k = ap (λ n. replicate n false) (sym (length_elements 0 k)) ∙ sym (map_none (elements k))
 
-has_tl : (a : List Bool) (i : ℕ) → has (tl bits a) i ≡ has a (suc i)
+pub has_tl : (a : List Bool) (i : ℕ) → has (tl bits a) i ≡ has a (suc i)
 has_tl [] i = refl
 has_tl (x ∷ a) i = refl
 
-has_hd : (a : List Bool) → hd bits a ≡ has a 0
+pub has_hd : (a : List Bool) → hd bits a ≡ has a 0
 has_hd [] = refl
 has_hd (x ∷ a) = refl
 

@@ -1,7 +1,7 @@
+pub mod Rising
 pub mod Places
 pub mod Rows
 pub mod Answers
 pub mod Begun
-pub mod Sorting
 pub mod Searching
 pub mod Reading

@@ -6,26 +6,11 @@ use Rattle.sets.specs.Bits.{flip}
 use Rattle.sets.specs.Lists.{In, Distinct}
 use Rattle.sets.specs.Sets.{has, size, elements, elements_from, among}
 use Rattle.sets.proofs.Lists.{in_get_or}
-use Rattle.sets.proofs.Numbers.{eqb_same, in_among, elements_low, elements_distinct, length_elements}
+use Rattle.sets.proofs.Numbers.{eqb_same, in_among, elements_distinct, length_elements}
 use Rattle.linear.specs.Field.{bits}
 use Rattle.linear.specs.Compress.{compress}
 use Rattle.linear.specs.Basis.{hd, tl}
 use Rattle.elimination.specs.Calls.{more}
-
--- the elements of a set rise
-rising_from : (from : ℕ) (m : List Bool) (i j : ℕ) → i ≤ j → j < length (elements_from from m) → get_or (elements_from from m) i 0 ≤ get_or (elements_from from m) j 0
-rising_from from [] i j h l = omega arith
-rising_from from (true ∷ m) zero zero h l = omega arith
-rising_from from (true ∷ m) zero (suc j) h l =
-    let l' : j < length (elements_from (from + 1) m) = omega arith in
-    let low : from + 1 ≤ get_or (elements_from (from + 1) m) j 0 = elements_low (from + 1) m _ (in_get_or (elements_from (from + 1) m) j 0 l') in
-    omega arith
-rising_from from (true ∷ m) (suc i) zero h l = absurd (omega arith)
-rising_from from (true ∷ m) (suc i) (suc j) h l = let h' : i ≤ j = omega arith in let l' : j < length (elements_from (from + 1) m) = omega arith in rising_from (from + 1) m i j h' l'
-rising_from from (false ∷ m) i j h l = rising_from (from + 1) m i j h l
-
-pub rising : (k : List Bool) (i j : ℕ) → i ≤ j → j < length (elements k) → get_or (elements k) i 0 ≤ get_or (elements k) j 0
-rising = rising_from 0
 
 map_same : (p p' : ℕ → Bool) (E : List ℕ) → ((e : ℕ) → In e E → p e ≡ p' e) → map p E ≡ map p' E
 map_same p p' [] h = refl

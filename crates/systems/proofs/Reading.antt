@@ -1,10 +1,8 @@
 -- What a caller reads off a system: which qubits a solution has, and whether a cluster's connecting check is free.
-use Rattle.std.proofs.Common.{◌≡◌, ℕ, zero, suc, ◌+◌, ◌<◌, ◌≤◌, Bool, true, false, not, ◌&&◌, eqb, List, [], ◌∷◌, length, get_or, set, sym, refl, ap, ◌∙◌, ap₂, true≢false, arith}
-use Rattle.std.proofs.lemmas.Bool.{false_from_ne_true}
+use Rattle.std.proofs.Common.{◌≡◌, ℕ, zero, suc, ◌+◌, ◌<◌, ◌≤◌, Bool, true, false, not, ◌&&◌, eqb, List, [], ◌∷◌, length, get_or, set, sym, refl, ap, ◌∙◌, ap₂, arith}
 use Rattle.std.proofs.lemmas.List.{length-take-le}
-use Rattle.sets.specs.Sets.{has, size, only, elements, elements_from, among as listed}
+use Rattle.sets.specs.Sets.{has, size, only, elements, elements_from}
 use Rattle.sets.proofs.Sets.{has_any, only_self}
-use Rattle.sets.proofs.Numbers.{in_among, among_in, has_element, element_has, elements_distinct, distinct_repeats}
 use Rattle.meaning.specs.Meaning.{Meaning}
 use Rattle.linear.specs.Field.{bits}
 use Rattle.linear.specs.Basis.{tl}
@@ -12,7 +10,7 @@ use Rattle.rules.specs.States.{State}
 use Rattle.rules.specs.Systems.{solutions}
 use Rattle.rules.specs.Clusters.{touched, free}
 use Rattle.systems.specs.declared.System.{System}
-use Rattle.systems.specs.Told.{ToldOnce, spread, free_beside}
+use Rattle.systems.specs.Told.{spread, free_beside}
 use Rattle.systems.specs.Stated.{Stated, least_of}
 use Rattle.systems.proofs.Places.{has_hd, has_tl}
 
@@ -46,20 +44,6 @@ pub least_long : (e : System) (M : Meaning) (k among odds : List Bool) → State
 least_long e M k among odds s =
     let few : e.elimination.echelon.width ≤ length e.elimination.least.items = omega (arith, e.elimination.echelon.few, e.elimination.roomy, e.elimination.least.ok.0) in
     length-take-le e.elimination.echelon.width e.elimination.least.items few ∙ s.held.unknowns
-
--- the elements of a set, as they rise, name each once
-pub elements_told : (k : List Bool) → ToldOnce k (elements k)
-elements_told k = record { names = names; once = distinct_repeats (elements k) (elements_distinct 0 k) }
-  where
-    names : (q : ℕ) → listed q (elements k) ≡ has k q
-    names q = go (has k q) refl
-      where
-        go : (b : Bool) → has k q ≡ b → listed q (elements k) ≡ b
-        go true h = in_among q (elements k) (has_element k q h)
-        go false h = false_from_ne_true (listed q (elements k)) (λ t. clash (sym (element_has k q (among_in q (elements k) t)) ∙ h))
-          where
-            clash : true ≡ false → ⊥
-            clash = true≢false
 
 -- a single connecting check beside the internal ones is free by the rules if it is free beside these
 pub free_by_rules : (M : Meaning) (s : State) (k internals : List Bool) (c : ℕ) → touched M s k ≡ set internals c true → c < length M.checks → free_beside M k internals c ≡ free M s k (only (length M.checks) c)

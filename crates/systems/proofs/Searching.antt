@@ -1,5 +1,5 @@
 -- The place of an unknown, as it is searched for; and the qubits of a check as a table tells them.
-use Rattle.std.proofs.Common.{◌≡◌, ℕ, ◌<◌, ◌≤◌, Option, Some, None, Result, Ok, Err, Bool, true, false, cond, List, length, get_or, sym, refl, ap, ◌∙◌, subst, inl, inr, unwrap_or, is_some, true≢false, arith, lt-ltb, ltb-false}
+use Rattle.std.proofs.Common.{◌≡◌, ℕ, suc, ◌<◌, ◌≤◌, Option, Some, None, Result, Ok, Err, Bool, true, false, cond, List, [], ◌∷◌, length, get_or, sym, refl, ap, ◌∙◌, subst, inl, inr, unwrap_or, is_some, true≢false, arith, lt-ltb, ltb-false}
 use Rattle.std.specs.Option.{MatchOption}
 use Rattle.std.specs.Result.{OkIff, result_ok}
 use Rattle.std.specs.List.Sorted.{IsBinarySearchResult}
@@ -11,7 +11,7 @@ use Rattle.terms.specs.Answering.{Answers}
 use Rattle.terms.specs.declared.refusal.Refusal.{Refusal}
 use Rattle.terms.specs.declared.refusal.Refusal.TheVariants.{QubitTooLarge}
 use Rattle.terms.specs.declared.row.Row.TheVariants.{Check}
-use Rattle.sets.specs.Lists.{Distinct}
+use Rattle.sets.specs.Lists.{In, Distinct}
 use Rattle.sets.specs.Sets.{has, row, elements, among}
 use Rattle.sets.proofs.Numbers.{among_in, repeats_distinct}
 use Rattle.meaning.specs.Telling.{is_row}
@@ -19,9 +19,13 @@ use Rattle.table.specs.declared.Table.{Table}
 use Rattle.table.specs.OfTable.{meaning_of, told_of}
 use Rattle.table.specs.Stands.{table_tells, table_tells_none}
 use Rattle.elimination.specs.Calls.{outside}
-use Rattle.systems.proofs.Places.{rising}
+use Rattle.systems.proofs.Rising.{rising}
 use Rattle.systems.proofs.Rows.{no_row}
-use Rattle.systems.proofs.Sorting.{in_at}
+
+in_at : (x : ℕ) (l : List ℕ) → In x l → (i : ℕ) × (i < length l) × (get_or l i 0 ≡ x)
+in_at x [] n = absurd n
+in_at x (y ∷ l) (inl e) = (0, omega arith, sym e)
+in_at x (y ∷ l) (inr m) = let (i, h, e) = in_at x l m in (suc i, omega arith, e)
 
 rises : (k : List Bool) (l : List ℕ) → elements k ≡ l → (i j : ℕ) → i ≤ j → j < length l → get_or l i 0 ≤ get_or l j 0
 rises k l e = let P : List ℕ → Type 0 = λ t. (i j : ℕ) → i ≤ j → j < length t → get_or t i 0 ≤ get_or t j 0 in subst P e (rising k)

@@ -1,15 +1,10 @@
 -- What a system of a code is told and what it answers, by the list of its solutions.
-use Rattle.std.specs.Prelude.{◌≡◌, ℕ, Bool, true, false, not, List, [], ◌∷◌, length, Some, None, Option, ◌==◌, slice_set}
-use Rattle.sets.specs.Sets.{has, only, among as listed, repeats}
+use Rattle.std.specs.Prelude.{◌≡◌, ℕ, Bool, true, not, List, [], ◌∷◌, length, Some, None, Option, ◌==◌, slice_set}
+use Rattle.sets.specs.Sets.{only}
 use Rattle.meaning.specs.Meaning.{Meaning}
 use Rattle.linear.specs.Field.{bits}
 use Rattle.linear.specs.Compress.{expand}
 use Rattle.rules.specs.Systems.{solutions, slack}
-
--- the list names each element of the set k, once, and nothing else
-pub record ToldOnce (k : List Bool) (l : List ℕ) : Type 0 where
-  pub names : (q : ℕ) → listed q l ≡ has k q
-  pub once : repeats l ≡ false
 
 -- the set of those elements of k at whose places, in rising order, the list has true
 abbrev pub spread : List Bool → List Bool → List Bool

@@ -1,20 +1,22 @@
 //! Stating a system: its unknowns, and one check after another.
-ghost use Rattle.std.specs.Prelude.{◌≡◌, ◌≤◌, ◌<◌, Bool, true, false, List, [], length, replicate, None, MatchOption, slice_index, slice_set};
+ghost use Rattle.std.specs.Prelude.{◌≡◌, ◌≤◌, ◌<◌, Bool, true, false, List, [], length, replicate, None, Err, MatchOption, slice_index, slice_set};
 ghost use Rattle.terms.specs.Answering.{Answers, AnswersIfMemory};
+ghost use Rattle.terms.specs.declared.refusal.Refusal.TheVariants.{NotRising};
 ghost use Rattle.sets.specs.Sets.{has, row, among as listed, size, empty, elements};
 ghost use Rattle.meaning.specs.Meaning.{Meaning};
 ghost use Rattle.linear.specs.Field.{bits};
 ghost use Rattle.linear.specs.System.{Row as Equation};
 ghost use Rattle.linear.specs.Compress.{compress};
+ghost use Rattle.rules.specs.Reports.{rises};
 ghost use Rattle.elimination.specs.Holds.{Holds};
 ghost use Rattle.elimination.specs.Calls.{too_many};
 ghost use Rattle.table.specs.OfTable.{meaning_of};
 ghost use Rattle.upkeep.specs.Changed.{marked};
-ghost use Rattle.systems.specs.Told.{ToldOnce};
 ghost use Rattle.systems.specs.Stated.{Stated, KeptIfRefused, unknowns_of};
 
 use super::{MOST, System};
 use elimination::Elimination;
+use marking::looking::is_rising;
 use std::alloc::Global;
 use table::Table;
 use terms::refusal::Refusal;
@@ -32,19 +34,21 @@ impl System {
         })
     }
 
-    /// Starts a system over these unknowns, in whatever order, with no checks. More than 256 are refused.
+    /// Starts a system over these unknowns, which rise, with no checks. More than 256 are refused.
     pub fn begin(&mut self, qubits: &[u16]) -> Result<(), Refusal>
-        ensures begun { Answers result (too_many (length qubits.now)) (λ _. (M : Meaning) (k odds : List Bool) → ToldOnce k qubits.now → length odds ≡ length M.checks → Stated self.new M k (empty (length M.checks)) odds) }
+        ensures begun { (k : List Bool) → elements k ≡ qubits.now → Answers result (too_many (size k)) (λ _. (M : Meaning) (odds : List Bool) → length odds ≡ length M.checks → Stated self.new M k (empty (length M.checks)) odds) }
+        ensures falling { rises qubits.now ≡ false → result ≡ Err NotRising }
         ensures kept { KeptIfRefused result self.old self.new }
     {
+        if !is_rising(qubits) {
+            return Err(Refusal::NotRising);
+        }
         let count = qubits.len();
         if count > MOST {
             return Err(Refusal::TooManyUnknowns);
         }
         // Kept: `0..count`, for after `..count` nothing is known of the vector.
-        let unknowns = &mut self.unknowns[0..count];
-        unknowns.copy_from_slice(qubits);
-        unknowns.sort_unstable();
+        self.unknowns[0..count].copy_from_slice(qubits);
         self.count = count;
         self.elimination.begin(count as u16)
     }

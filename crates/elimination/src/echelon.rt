@@ -25,7 +25,8 @@ const LANES: usize = 16;
 pub(crate) struct Echelon<T> {
     pub(crate) width: usize,
     // Kept: rows end to end in memory for the most columns, since no call but `new` may want memory. A `Vec` of rows, each as long as it is used, would
-    // be 256 blocks, each cleared and resized in `begin` as above, with facts on the length and the room of each, where there is one fact.
+    // be 256 blocks, each cleared and resized in `begin`, with an arm for want of memory that cannot come, and facts on the length and the room of
+    // each, where there is one fact.
     /// The rows, end to end.
     cells: Vec<T>,
     ghost few: { width ≤ MOST },

@@ -100,7 +100,7 @@ impl<T: Value> Echelon<T> {
     }
 
     /// Adds `k` times the row of a column, on the right side and behind the column. What stands before the column is not read again, so the addition
-    /// begins at a place from which on whole vectors fit, which makes it nearly twice as fast.
+    /// begins at a place from which on whole vectors fit (docs/performance.md).
     fn add_row(&self, j: usize, k: T, row: &mut [T])
         requires column { j < self.now.width }
         requires long { length row.old ≡ self.now.width + 1 }

@@ -1,0 +1,74 @@
+-- What putting on top and taking off the top do to the entries that are read from memory.
+use Rattle.std.proofs.Common.{◌≡◌, ℕ, zero, suc, ◌+◌, ◌-◌, ◌≤◌, List, [], ◌∷◌, ◌++◌, length, take, drop, sym, refl, ap, ◌∙◌, arith, length-append, length-drop}
+use Rattle.std.specs.Prelude.{sum_by}
+use Rattle.std.proofs.Math.Seq.{take-length, take-add}
+use Rattle.std.proofs.lemmas.List.{take-append-le, drop-append-le, take-append-drop, drop-take, length-take-le}
+use Rattle.std.proofs.lemmas.List.Sums.{sum_by-cons, sum_by-append}
+use Rattle.shelf.specs.Shelving.{ToldEntry, member_count}
+use Rattle.shelf.specs.Stacked.{entries_on, Stacked}
+use Rattle.shelf.specs.declared.Record.{Record}
+
+abbrev pub counts : List Record → ℕ
+counts rs = sum_by (λ r. r.count) rs
+
+counts_cons : (r : Record) (rs : List Record) → counts (r ∷ rs) ≡ r.count + counts rs
+counts_cons r rs = sum_by-cons (λ (r : Record). r.count) r rs
+
+count_cons : (e : ToldEntry) (l : List ToldEntry) → member_count (e ∷ l) ≡ length e.members + member_count l
+count_cons e l = sum_by-cons (λ (e : ToldEntry). length e.members) e l
+
+-- the entry of a record with these members
+abbrev pub entry : Record → List ℕ → ToldEntry
+entry r ms = record { members = ms; check = r.check }
+
+pub length_on : (older : List ToldEntry) (rs : List Record) (ms : List ℕ) → length (entries_on older rs ms) ≡ length older + length rs
+length_on older [] ms = omega arith
+length_on older (r ∷ rs) ms = omega (arith, length_on (entry r (take r.count ms) ∷ older) rs (drop r.count ms))
+
+-- one more record, and its members
+pub on_more : (older : List ToldEntry) (rs : List Record) (r : Record) (ms new : List ℕ) → counts rs ≡ length ms → length new ≡ r.count
+    → entries_on older (rs ++ r ∷ []) (ms ++ new) ≡ entry r new ∷ entries_on older rs ms
+on_more older [] r [] new e f = ap (λ m. entry r m ∷ older) (ap (λ k. take k new) (sym f) ∙ take-length new)
+on_more older [] r (m ∷ ms) new e f = absurd (omega arith)
+on_more older (s ∷ rs) r ms new e f =
+    let h : s.count ≤ length ms = omega (arith, counts_cons s rs) in
+    let e' : counts rs ≡ length (drop s.count ms) = omega (arith, length-drop s.count ms, counts_cons s rs) in
+    ap (λ m. entries_on (entry s m ∷ older) (rs ++ r ∷ []) (drop s.count (ms ++ new))) (take-append-le s.count ms new h)
+    ∙ ap (λ m. entries_on (entry s (take s.count ms) ∷ older) (rs ++ r ∷ []) m) (drop-append-le s.count ms new h)
+    ∙ on_more (entry s (take s.count ms) ∷ older) rs r (drop s.count ms) new e' f
+
+-- all members are those of the entries
+pub members_on : (older : List ToldEntry) (rs : List Record) (ms : List ℕ) → counts rs ≡ length ms → member_count (entries_on older rs ms) ≡ member_count older + length ms
+members_on older [] [] e = omega arith
+members_on older [] (m ∷ ms) e = absurd (omega arith)
+members_on older (r ∷ rs) ms e =
+    let h : r.count ≤ length ms = omega (arith, counts_cons r rs) in
+    let e' : counts rs ≡ length (drop r.count ms) = omega (arith, length-drop r.count ms, counts_cons r rs) in
+    omega (arith, members_on (entry r (take r.count ms) ∷ older) rs (drop r.count ms) e', length-take-le r.count ms h, length-drop r.count ms, count_cons (entry r (take r.count ms)) older)
+
+-- of stacks with a record on top: how many members are below it, and what the entries are
+pub record Topped (records : List Record) (len below : ℕ) (members : List ℕ) (filled : ℕ) (r : Record) : Type 0 where
+  pub part : r.count ≤ filled
+  pub counted : counts (take below records) ≡ filled - r.count
+  pub entries : entries_on [] (take len records) (take filled members) ≡ entry r (take (filled - (filled - r.count)) (drop (filled - r.count) members)) ∷ entries_on [] (take below records) (take (filled - r.count) members)
+
+pub topped : (records : List Record) (len below : ℕ) (members : List ℕ) (filled : ℕ) (r : Record) → Stacked records len members filled
+    → take len records ≡ take below records ++ r ∷ [] → Topped records len below members filled r
+topped records len below members filled r s e =
+    let sums : counts (take below records) + r.count ≡ filled = omega (arith, sum_by-append (λ (r : Record). r.count) (take below records) (r ∷ []), ap counts e, s.counted, counts_cons r []) in
+    let start : ℕ = filled - r.count in
+    let whole : start + r.count ≡ filled = omega arith in
+    let rest : r.count ≡ filled - start = omega arith in
+    let new : List ℕ = take r.count (drop start members) in
+    let long : length new ≡ r.count = length-take-le r.count (drop start members) (omega (arith, length-drop start members, s.members_held)) in
+    let low : length (take start members) ≡ start = length-take-le start members (omega (arith, s.members_held)) in
+    record {
+      part = omega arith;
+      counted = omega arith;
+      entries =
+        ap (λ rs. entries_on [] rs (take filled members)) e
+        ∙ ap (λ k. entries_on [] (take below records ++ r ∷ []) (take k members)) (sym whole)
+        ∙ ap (entries_on [] (take below records ++ r ∷ [])) (take-add start r.count members)
+        ∙ on_more [] (take below records) r (take start members) new (omega (arith, sums, whole, low)) long
+        ∙ ap (λ k. entry r (take k (drop start members)) ∷ entries_on [] (take below records) (take start members)) rest;
+    }

@@ -1,10 +1,12 @@
 -- What putting on top and taking off the top do to the entries that are read from memory.
-use Rattle.std.proofs.Common.{◌≡◌, ℕ, zero, suc, ◌+◌, ◌-◌, ◌≤◌, List, [], ◌∷◌, ◌++◌, length, take, drop, sym, refl, ap, ◌∙◌, arith, length-append, length-drop}
-use Rattle.std.specs.Prelude.{sum_by}
+use Rattle.std.proofs.Common.{◌≡◌, ℕ, zero, suc, ◌+◌, ◌-◌, ◌<◌, ◌≤◌, Bool, true, false, ◌&&◌, leb, ltb, List, [], ◌∷◌, ◌++◌, length, take, drop, sym, refl, ap, ap₂, ◌∙◌, arith, length-append, length-drop}
+use Rattle.std.specs.Prelude.{sum_by, is_ok, Ok, Err, Result, if◌then◌else◌}
 use Rattle.std.proofs.Math.Seq.{take-length, take-add}
+use Rattle.std.proofs.Math.Bool.{and-false}
+use Rattle.std.proofs.lemmas.Bool.{lt-ltb, le-ltb, le-leb, lt-leb}
 use Rattle.std.proofs.lemmas.List.{take-append-le, drop-append-le, take-append-drop, drop-take, length-take-le}
 use Rattle.std.proofs.lemmas.List.Sums.{sum_by-cons, sum_by-append}
-use Rattle.shelf.specs.Shelving.{ToldEntry, member_count}
+use Rattle.shelf.specs.Shelving.{ToldEntry, Shelving, member_count, has_room, with_entry}
 use Rattle.shelf.specs.Stacked.{entries_on, Stacked}
 use Rattle.shelf.specs.declared.Record.{Record}
 
@@ -72,3 +74,42 @@ topped records len below members filled r s e =
         ∙ on_more [] (take below records) r (take start members) new (omega (arith, sums, whole, low)) long
         ∙ ap (λ k. entry r (take k (drop start members)) ∷ entries_on [] (take below records) (take start members)) rest;
     }
+
+abbrev shelving : List ToldEntry → ℕ → ℕ → Shelving
+shelving l q k = record { entries = l; qubits = q; checks = k }
+
+-- what is seen of the stacks
+abbrev pub seen : List Record → ℕ → List ℕ → ℕ → Shelving
+seen records len members filled = record { entries = entries_on [] (take len records) (take filled members); qubits = length members; checks = length records }
+
+module _ (records : List Record) (len : ℕ) (members : List ℕ) (filled : ℕ) (s : Stacked records len members filled) where
+  counted : counts (take len records) ≡ length (take filled members)
+  counted = s.counted ∙ sym (length-take-le filled members s.members_held)
+
+  room_is : (new : List ℕ) → has_room (seen records len members filled) new ≡ (ltb len (length records) && leb (filled + length new) (length members))
+  room_is new =
+      let l : length (entries_on [] (take len records) (take filled members)) ≡ len = omega (arith, length_on [] (take len records) (take filled members), length-take-le len records s.records_held) in
+      let m : member_count (entries_on [] (take len records) (take filled members)) ≡ filled = omega (arith, members_on [] (take len records) (take filled members) counted, length-take-le filled members s.members_held) in
+      ap₂ (λ l m. ltb l (length records) && leb (m + length new) (length members)) l m
+
+  pub too_many : (new : List ℕ) → length members < filled + length new → has_room (seen records len members filled) new ≡ false
+  too_many new h = room_is new ∙ ap (λ b. ltb len (length records) && b) (lt-leb (filled + length new) (length members) h) ∙ and-false (ltb len (length records))
+
+  pub no_record : (new : List ℕ) → length records ≤ len → has_room (seen records len members filled) new ≡ false
+  no_record new h = room_is new ∙ ap (λ b. b && leb (filled + length new) (length members)) (le-ltb len (length records) h)
+
+  pub room : (new : List ℕ) → len < length records → filled + length new ≤ length members → has_room (seen records len members filled) new ≡ true
+  room new h k = room_is new ∙ ap₂ ◌&&◌ (lt-ltb len (length records) h) (le-leb (filled + length new) (length members) k)
+
+  -- a record on top, and its members
+  pub on_top : (records' : List Record) (len' : ℕ) (members' : List ℕ) (filled' : ℕ) (r : Record) (new : List ℕ) → length new ≡ r.count
+      → take len' records' ≡ take len records ++ r ∷ [] → take filled' members' ≡ take filled members ++ new → length members' ≡ length members → length records' ≡ length records
+      → seen records' len' members' filled' ≡ with_entry (seen records len members filled) new r.check
+  on_top records' len' members' filled' r new n e f m k =
+      ap (λ l. shelving l (length members') (length records')) (ap₂ (entries_on []) e f ∙ on_more [] (take len records) r (take filled members) new counted n)
+      ∙ ap₂ (shelving (entry r new ∷ entries_on [] (take len records) (take filled members))) m k
+
+-- what a push that went well or not says of its test
+pub ok_is : {E : Type 0} (b : Bool) (x : E) (r : Result (Unit {0}) E) → r ≡ (if b then Ok tt else Err x) → is_ok r ≡ b
+ok_is true x r e = ap is_ok e
+ok_is false x r e = ap is_ok e

@@ -7,7 +7,7 @@ use Rattle.std.proofs.lemmas.Bool.{lt-ltb, le-ltb, le-leb, lt-leb}
 use Rattle.std.proofs.lemmas.List.{take-append-le, drop-append-le, take-append-drop, drop-take, length-take-le}
 use Rattle.std.proofs.lemmas.List.Sums.{sum_by-cons, sum_by-append}
 use Rattle.shelf.specs.Shelving.{ToldEntry, Shelving, member_count, has_room, with_entry}
-use Rattle.shelf.specs.Stacked.{entries_on, Stacked}
+use Rattle.shelf.specs.Stacked.{entries_on, seen, Stacked}
 use Rattle.shelf.specs.declared.Record.{Record}
 
 abbrev pub counts : List Record → ℕ
@@ -77,10 +77,6 @@ topped records len below members filled r s e =
 
 abbrev shelving : List ToldEntry → ℕ → ℕ → Shelving
 shelving l q k = record { entries = l; qubits = q; checks = k }
-
--- what is seen of the stacks
-abbrev pub seen : List Record → ℕ → List ℕ → ℕ → Shelving
-seen records len members filled = record { entries = entries_on [] (take len records) (take filled members); qubits = length members; checks = length records }
 
 module _ (records : List Record) (len : ℕ) (members : List ℕ) (filled : ℕ) (s : Stacked records len members filled) where
   counted : counts (take len records) ≡ length (take filled members)

@@ -23,15 +23,14 @@ pub struct Shelf {
 }
 
 impl Model for Shelf {
-    ghost use Rattle.std.specs.Prelude.{[], length, take};
     ghost use Rattle.shelf.specs.Shelving.{Shelving};
 
     // the entries, newest first, and the room that there is
     ghost Value = { Shelving };
 
-    ghost use Rattle.shelf.specs.Stacked.{entries_on, Stacked};
+    ghost use Rattle.shelf.specs.Stacked.{seen, Stacked};
 
-    ghost view = { λ s. record { entries = entries_on [] (take s.len s.records.items) (take s.filled s.members.items); qubits = length s.members.items; checks = length s.records.items } };
+    ghost view = { λ s. seen s.records.items s.len s.members.items s.filled };
 
     ghost invariant = { λ s. Stacked s.records.items s.len s.members.items s.filled };
 }

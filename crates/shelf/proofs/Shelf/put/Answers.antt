@@ -4,8 +4,9 @@ use Rattle.std.proofs.lemmas.List.{with_items_is}
 use Rattle.std.proofs.Math.Seq.{take-length}
 use Rattle.std.specs.Vec.{with_items}
 use Rattle.shelf.specs.Shelving.{Shelving, has_room, with_entry}
+use Rattle.shelf.specs.Stacked.{seen}
 use Rattle.shelf.specs.declared.Record.{Record}
-use Rattle.shelf.proofs.Stacks.{seen, too_many, no_record, room, on_top, ok_is}
+use Rattle.shelf.proofs.Stacks.{too_many, no_record, room, on_top, ok_is}
 use Rattle.shelf.proofs.Shelf.put.Goals as goal
 
 pub returns-in_err-or-clause-test : goal.returns-in_err-or-clause-test

@@ -16,7 +16,7 @@ counts rs = sum_by (λ r. r.count) rs
 counts_cons : (r : Record) (rs : List Record) → counts (r ∷ rs) ≡ r.count + counts rs
 counts_cons r rs = sum_by-cons (λ (r : Record). r.count) r rs
 
-count_cons : (e : ToldEntry) (l : List ToldEntry) → member_count (e ∷ l) ≡ length e.members + member_count l
+pub count_cons : (e : ToldEntry) (l : List ToldEntry) → member_count (e ∷ l) ≡ length e.members + member_count l
 count_cons e l = sum_by-cons (λ (e : ToldEntry). length e.members) e l
 
 -- the entry of a record with these members

@@ -1,9 +1,8 @@
 -- The shelf as the rules have it: what putting an entry on and taking the newest off are there.
-use Rattle.std.proofs.Common.{◌≡◌, ℕ, List, [], ◌∷◌, length, drop, Some, None, sym, refl, ap}
+use Rattle.std.proofs.Common.{◌≡◌, ℕ, List, [], ◌∷◌, length, drop, Some, None, refl, ap}
 use Rattle.std.specs.Prelude.{slice_get}
 use lib.ListN.{length-map}
 use Rattle.sets.specs.Sets.{marks}
-use Rattle.rules.specs.States.{Entry}
 use Rattle.shelf.specs.Shelving.{ToldEntry, Shelving, with_entry, without_newest, entry_of, entries_of}
 
 pub entries_put : (n : ℕ) (v : Shelving) (members : List ℕ) (check : ℕ) → entries_of n (with_entry v members check).entries ≡ record { members = marks n members; check = check } ∷ entries_of n v.entries

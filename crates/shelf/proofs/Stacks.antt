@@ -1,10 +1,10 @@
 -- What putting on top and taking off the top do to the entries that are read from memory.
-use Rattle.std.proofs.Common.{◌≡◌, ℕ, zero, suc, ◌+◌, ◌-◌, ◌<◌, ◌≤◌, Bool, true, false, ◌&&◌, leb, ltb, List, [], ◌∷◌, ◌++◌, length, take, drop, sym, refl, ap, ap₂, ◌∙◌, arith, length-append, length-drop}
+use Rattle.std.proofs.Common.{◌≡◌, ℕ, ◌+◌, ◌-◌, ◌<◌, ◌≤◌, Bool, true, false, ◌&&◌, leb, ltb, List, [], ◌∷◌, ◌++◌, length, take, drop, sym, ap, ap₂, ◌∙◌, arith, length-drop}
 use Rattle.std.specs.Prelude.{sum_by, is_ok, Ok, Err, Result, if◌then◌else◌}
 use Rattle.std.proofs.Math.Seq.{take-length, take-add}
 use Rattle.std.proofs.Math.Bool.{and-false}
 use Rattle.std.proofs.lemmas.Bool.{lt-ltb, le-ltb, le-leb, lt-leb}
-use Rattle.std.proofs.lemmas.List.{take-append-le, drop-append-le, take-append-drop, drop-take, length-take-le}
+use Rattle.std.proofs.lemmas.List.{take-append-le, drop-append-le, length-take-le}
 use Rattle.std.proofs.lemmas.List.Sums.{sum_by-cons, sum_by-append}
 use Rattle.shelf.specs.Shelving.{ToldEntry, Shelving, member_count, has_room, with_entry}
 use Rattle.shelf.specs.Stacked.{entries_on, seen, Stacked}
@@ -68,11 +68,11 @@ topped records len below members filled r s e =
       part = omega arith;
       counted = omega arith;
       entries =
-        ap (λ rs. entries_on [] rs (take filled members)) e
-        ∙ ap (λ k. entries_on [] (take below records ++ r ∷ []) (take k members)) (sym whole)
-        ∙ ap (entries_on [] (take below records ++ r ∷ [])) (take-add start r.count members)
-        ∙ on_more [] (take below records) r (take start members) new (omega (arith, sums, whole, low)) long
-        ∙ ap (λ k. entry r (take k (drop start members)) ∷ entries_on [] (take below records) (take start members)) rest;
+          ap (λ rs. entries_on [] rs (take filled members)) e
+          ∙ ap (λ k. entries_on [] (take below records ++ r ∷ []) (take k members)) (sym whole)
+          ∙ ap (entries_on [] (take below records ++ r ∷ [])) (take-add start r.count members)
+          ∙ on_more [] (take below records) r (take start members) new (omega (arith, sums, whole, low)) long
+          ∙ ap (λ k. entry r (take k (drop start members)) ∷ entries_on [] (take below records) (take start members)) rest;
     }
 
 abbrev shelving : List ToldEntry → ℕ → ℕ → Shelving

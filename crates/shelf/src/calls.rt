@@ -12,10 +12,7 @@ impl Shelf {
     pub fn new(heap: Global, qubits: u16, checks: u16) -> Result<Shelf, AllocError>
         ensures { IfOk result (λ s. s ≡ record { entries = []; qubits = qubits; checks = checks }) }
     {
-        let none = Record {
-            count: 0,
-            check: 0,
-        };
+        let none = Record { count: 0, check: 0 };
         Ok(Shelf {
             members: vec![in heap; 0; qubits as usize]?,
             filled: 0,

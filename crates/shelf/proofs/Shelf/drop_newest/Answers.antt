@@ -1,4 +1,4 @@
-use Rattle.std.proofs.Common.{◌≡◌, ℕ, ◌-◌, List, [], ◌∷◌, ◌++◌, take, drop, refl, arith}
+use Rattle.std.proofs.Common.{◌≡◌, ◌-◌, [], ◌∷◌, ◌++◌, take, refl, arith}
 use Rattle.shelf.proofs.Stacks.{topped}
 use Rattle.shelf.proofs.Shelf.drop_newest.Goals as goal
 

@@ -1,4 +1,4 @@
-use Rattle.std.proofs.Common.{◌≡◌, [], length, take, ap, arith}
+use Rattle.std.proofs.Common.{[], length, take, ap, arith}
 use Rattle.std.proofs.lemmas.List.{length-take-le}
 use Rattle.shelf.specs.Shelving.{Shelving}
 use Rattle.shelf.proofs.Stacks.{length_on}

@@ -17,7 +17,7 @@ impl Shelf {
             members: vec![in heap; 0; qubits as usize]?,
             filled: 0,
             records: vec![in heap; none; checks as usize]?,
-            len: 0,
+            height: 0,
         })
     }
 
@@ -35,7 +35,7 @@ impl Shelf {
             count: members.len() as u16,
             check,
         };
-        push(&mut self.records, &mut self.len, record).or(Err(NoRoom))?;
+        push(&mut self.records, &mut self.height, record).or(Err(NoRoom))?;
         self.filled = filled;
         Ok(())
     }
@@ -44,9 +44,9 @@ impl Shelf {
     pub fn newest(&self) -> Option<Entry<'_>>
         ensures { option_map told result ≡ slice_get self.now.entries 0 }
     {
-        // A copy of the length, so that the record is read and not taken.
-        let mut len = self.len;
-        let top = pop(&self.records, &mut len)?;
+        // A copy, so that the record is read and not taken.
+        let mut height = self.height;
+        let top = pop(&self.records, &mut height)?;
         let start = self.filled - top.count as usize;
         Some(Entry {
             members: &self.members[start..self.filled],
@@ -58,7 +58,7 @@ impl Shelf {
     pub fn drop_newest(&mut self)
         ensures { self.new ≡ without_newest self.old }
     {
-        if let Some(top) = pop(&self.records, &mut self.len) {
+        if let Some(top) = pop(&self.records, &mut self.height) {
             for _ in 0..top.count {
                 pop(&self.members, &mut self.filled);
             }
@@ -69,13 +69,13 @@ impl Shelf {
     pub fn len(&self) -> usize
         ensures { result ≡ length self.now.entries }
     {
-        self.len
+        self.height
     }
 
     /// Whether there is no entry.
     pub fn is_empty(&self) -> bool
         ensures { result ≡ (length self.now.entries == 0) }
     {
-        self.len == 0
+        self.len() == 0
     }
 }

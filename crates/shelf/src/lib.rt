@@ -19,7 +19,7 @@ pub struct Shelf {
     members: Vec<u16>,
     filled: usize,
     records: Vec<Record>,
-    len: usize,
+    height: usize,
 }
 
 impl Model for Shelf {
@@ -30,9 +30,9 @@ impl Model for Shelf {
 
     ghost use Rattle.shelf.specs.Stacked.{seen, Stacked};
 
-    ghost view = { λ s. seen s.records.items s.len s.members.items s.filled };
+    ghost view = { λ s. seen s.records.items s.height s.members.items s.filled };
 
-    ghost invariant = { λ s. Stacked s.records.items s.len s.members.items s.filled };
+    ghost invariant = { λ s. Stacked s.records.items s.height s.members.items s.filled };
 }
 
 /// An entry as it is lent: the numbers of the cluster's qubits in the order in which they were put, and the check that was closed for it.

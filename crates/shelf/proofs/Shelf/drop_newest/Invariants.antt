@@ -6,6 +6,6 @@ invariant-loop l =
     record {
       members : l.self-inside.members ≡ l.initial.self-inside.members;
       records : l.self-inside.records ≡ l.initial.self-inside.records;
-      len : l.self-inside.len ≡ l.initial.self-inside.len;
+      height : l.self-inside.height ≡ l.initial.self-inside.height;
       filled : l.self-inside.filled + l.counter ≡ l.initial.self-inside.filled;
     }

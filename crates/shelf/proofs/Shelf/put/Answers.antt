@@ -16,7 +16,7 @@ returns-in_err-or-clause-test c =
     let full : is_ok c.push.result ≡ false = search rules in
     let test : ltb c.loop-q.filled (length c.deref_mut.result.now) ≡ false = sym (ok_is (ltb c.loop-q.filled (length c.deref_mut.result.now)) (get_or c.args.members.now c.loop-q.q-index 0) c.push.result c.push.ensures.test) ∙ full in
     let past : length s.members.items < s.filled + length c.args.members.now = omega (arith, ltb-false c.loop-q.filled (length c.deref_mut.result.now) test, c.deref_mut.ensures.len, ap (length {A = ℕ}) c.deref_mut.ensures.value) in
-    refused ∙ sym (ap (λ (v : Shelving). has_room v c.args.members.now) (sym c.self.view_is) ∙ too_many s.records.items s.len s.members.items s.filled c.self.invariant c.args.members.now past)
+    refused ∙ sym (ap (λ (v : Shelving). has_room v c.args.members.now) (sym c.self.view_is) ∙ too_many s.records.items s.height s.members.items s.filled c.self.invariant c.args.members.now past)
 
 pub returns-in_err-or-2-clause-test : goal.returns-in_err-or-2-clause-test
 returns-in_err-or-2-clause-test c =
@@ -25,9 +25,9 @@ returns-in_err-or-2-clause-test c =
     let refused : is_ok c.from_residual-in_err-or-2.result ≡ false = search rules in
     let full : is_ok c.push-2.result ≡ false = search rules in
     let same : slots ≡ s.records.items = rw c.loop-q.invariant.records at c.deref_mut-2.ensures.value in
-    let test : ltb c.loop-q.self-inside.len (length slots) ≡ false = sym (ok_is (ltb c.loop-q.self-inside.len (length slots)) (record { count = length c.args.members.now; check = c.args.check }) c.push-2.result c.push-2.ensures.test) ∙ full in
-    let past : length s.records.items ≤ s.len = omega (arith, ltb-false c.loop-q.self-inside.len (length slots) test, ap (length {A = Record}) same) in
-    refused ∙ sym (ap (λ (v : Shelving). has_room v c.args.members.now) (sym c.self.view_is) ∙ no_record s.records.items s.len s.members.items s.filled c.self.invariant c.args.members.now past)
+    let test : ltb c.loop-q.self-inside.height (length slots) ≡ false = sym (ok_is (ltb c.loop-q.self-inside.height (length slots)) (record { count = length c.args.members.now; check = c.args.check }) c.push-2.result c.push-2.ensures.test) ∙ full in
+    let past : length s.records.items ≤ s.height = omega (arith, ltb-false c.loop-q.self-inside.height (length slots) test, ap (length {A = Record}) same) in
+    refused ∙ sym (ap (λ (v : Shelving). has_room v c.args.members.now) (sym c.self.view_is) ∙ no_record s.records.items s.height s.members.items s.filled c.self.invariant c.args.members.now past)
 
 pub returns-clause-test : goal.returns-clause-test
 returns-clause-test c =
@@ -35,10 +35,10 @@ returns-clause-test c =
     let slots : List Record = c.deref_mut-2.result.now in
     let put : is_ok c.push-2.result ≡ true = search rules in
     let same : slots ≡ s.records.items = rw c.loop-q.invariant.records at c.deref_mut-2.ensures.value in
-    let test : ltb c.loop-q.self-inside.len (length slots) ≡ true = sym (ok_is (ltb c.loop-q.self-inside.len (length slots)) (record { count = length c.args.members.now; check = c.args.check }) c.push-2.result c.push-2.ensures.test) ∙ put in
-    let place : s.len < length s.records.items = omega (arith, ltb-true c.loop-q.self-inside.len (length slots) test, ap (length {A = Record}) same) in
+    let test : ltb c.loop-q.self-inside.height (length slots) ≡ true = sym (ok_is (ltb c.loop-q.self-inside.height (length slots)) (record { count = length c.args.members.now; check = c.args.check }) c.push-2.result c.push-2.ensures.test) ∙ put in
+    let place : s.height < length s.records.items = omega (arith, ltb-true c.loop-q.self-inside.height (length slots) test, ap (length {A = Record}) same) in
     let places : s.filled + length c.args.members.now ≤ length s.members.items = omega arith in
-    sym (ap (λ (v : Shelving). has_room v c.args.members.now) (sym c.self.view_is) ∙ room s.records.items s.len s.members.items s.filled c.self.invariant c.args.members.now place places)
+    sym (ap (λ (v : Shelving). has_room v c.args.members.now) (sym c.self.view_is) ∙ room s.records.items s.height s.members.items s.filled c.self.invariant c.args.members.now place places)
 
 pub returns-clause-entries : goal.returns-clause-entries
 returns-clause-entries c =
@@ -46,11 +46,11 @@ returns-clause-entries c =
     let r : Record = record { count = length c.args.members.now; check = c.args.check } in
     let put : is_ok c.push-2.result ≡ true = search rules in
     let same : c.deref_mut-2.result.now ≡ s.records.items = rw c.loop-q.invariant.records at c.deref_mut-2.ensures.value in
-    let top : take c.push-2.new.len c.push-2.new.slots ≡ take s.len s.records.items ++ r ∷ [] = rw (put, same, c.loop-q.invariant.len) at c.push-2.ensures.held in
+    let top : take c.push-2.new.len c.push-2.new.slots ≡ take s.height s.records.items ++ r ∷ [] = rw (put, same, c.loop-q.invariant.height) at c.push-2.ensures.held in
     let all : c.loop-q.q-index ≡ length c.args.members.now = omega arith in
     let held : take c.loop-q.filled c.loop-q.self-inside.members.items ≡ take s.filled s.members.items ++ c.args.members.now = rw (all, take-length) at c.loop-q.invariant.put in
     let long : length c.push-2.new.slots ≡ length s.records.items = omega (arith, ap (length {A = Record}) same) in
     let back : (with_items c.loop-q.self-inside.records c.push-2.new.slots).items ≡ c.push-2.new.slots = with_items_is c.loop-q.self-inside.records c.push-2.new.slots (omega arith) in
     ap (λ (rs : List Record). seen rs c.push-2.new.len c.loop-q.self-inside.members.items c.loop-q.filled) back
-    ∙ on_top s.records.items s.len s.members.items s.filled c.self.invariant c.push-2.new.slots c.push-2.new.len c.loop-q.self-inside.members.items c.loop-q.filled r c.args.members.now refl top held c.loop-q.invariant.room long
+    ∙ on_top s.records.items s.height s.members.items s.filled c.self.invariant c.push-2.new.slots c.push-2.new.len c.loop-q.self-inside.members.items c.loop-q.filled r c.args.members.now refl top held c.loop-q.invariant.room long
     ∙ ap (λ (v : Shelving). with_entry v c.args.members.now c.args.check) c.self.view_is

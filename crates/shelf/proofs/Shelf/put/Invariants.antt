@@ -6,7 +6,7 @@ abbrev pub invariant-loop-q : goal.invariant-loop-q
 invariant-loop-q l =
     record {
       records : l.self-inside.records ≡ l.initial.self-inside.records;
-      len : l.self-inside.len ≡ l.initial.self-inside.len;
+      height : l.self-inside.height ≡ l.initial.self-inside.height;
       filled : l.self-inside.filled ≡ l.initial.self-inside.filled;
       room : length l.self-inside.members.items ≡ length l.initial.self-inside.members.items;
       kept : take l.initial.self-inside.filled l.self-inside.members.items ≡ take l.initial.self-inside.filled l.initial.self-inside.members.items;

@@ -62,9 +62,9 @@ pub room_for : (n : ℕ) (v : Shelving) (erased shelved closed : List Bool) (mem
     → size erased + size shelved ≤ v.qubits → length closed ≡ v.checks → length erased ≡ n
     → repeats members ≡ false → ((q : ℕ) → In q members → q < n) → ((q : ℕ) → has (marks n members) q ≡ true → has erased q ≡ true) → check < length closed → has closed check ≡ false
     → has_room v members ≡ true
-room_for n v erased shelved closed members check m l few checks long once low inside below open_ =
+room_for n v erased shelved closed members check m l few checks long once low inside below still =
     let t = told_size n members once low in
     let w = size_within (marks n members) erased (length_marks n members ∙ sym long) inside in
-    let place : length v.entries < v.checks = omega (arith, size_on closed check below open_, size_length (set closed check true), length-set closed check true) in
+    let place : length v.entries < v.checks = omega (arith, size_on closed check below still, size_length (set closed check true), length-set closed check true) in
     let places : member_count v.entries + length members ≤ v.qubits = omega (arith, t, w) in
     ap₂ ◌&&◌ (lt-ltb (length v.entries) v.checks place) (le-leb (member_count v.entries + length members) v.qubits places)

@@ -1,6 +1,6 @@
 -- What putting on top and taking off the top do to the entries that are read from memory.
-use Rattle.std.proofs.Common.{◌≡◌, ℕ, ◌+◌, ◌-◌, ◌<◌, ◌≤◌, Bool, true, false, ◌&&◌, leb, ltb, List, [], ◌∷◌, ◌++◌, length, take, drop, sym, ap, ap₂, ◌∙◌, arith, length-drop}
-use Rattle.std.specs.Prelude.{sum_by, is_ok, Ok, Err, Result, if◌then◌else◌}
+use Rattle.std.proofs.Common.{◌≡◌, ℕ, ◌+◌, ◌-◌, ◌<◌, ◌≤◌, true, false, ◌&&◌, leb, ltb, List, [], ◌∷◌, ◌++◌, length, take, drop, sym, ap, ap₂, ◌∙◌, arith, length-drop}
+use Rattle.std.specs.Prelude.{sum_by}
 use Rattle.std.proofs.Math.Seq.{take-length, take-add}
 use Rattle.std.proofs.Math.Bool.{and-false}
 use Rattle.std.proofs.lemmas.Bool.{lt-ltb, le-ltb, le-leb, lt-leb}
@@ -48,32 +48,22 @@ members_on older (r ∷ rs) ms e =
     let e' : counts rs ≡ length (drop r.count ms) = omega (arith, length-drop r.count ms, counts_cons r rs) in
     omega (arith, members_on (entry r (take r.count ms) ∷ older) rs (drop r.count ms) e', length-take-le r.count ms h, length-drop r.count ms, count_cons (entry r (take r.count ms)) older)
 
--- of stacks with a record on top: how many members are below it, and what the entries are
-pub record Topped (records : List Record) (len below : ℕ) (members : List ℕ) (filled : ℕ) (r : Record) : Type 0 where
-  pub part : r.count ≤ filled
-  pub counted : counts (take below records) ≡ filled - r.count
-  pub entries : entries_on [] (take len records) (take filled members) ≡ entry r (take (filled - (filled - r.count)) (drop (filled - r.count) members)) ∷ entries_on [] (take below records) (take (filled - r.count) members)
-
-pub topped : (records : List Record) (len below : ℕ) (members : List ℕ) (filled : ℕ) (r : Record) → Stacked records len members filled
-    → take len records ≡ take below records ++ r ∷ [] → Topped records len below members filled r
+-- a record on top: the newest entry, and those below it
+pub topped : (records : List Record) (len below : ℕ) (members : List ℕ) (filled : ℕ) (r : Record) → Stacked records len members filled → take len records ≡ take below records ++ r ∷ []
+    → entries_on [] (take len records) (take filled members)
+    ≡ entry r (take (filled - (filled - r.count)) (drop (filled - r.count) members)) ∷ entries_on [] (take below records) (take (filled - r.count) members)
 topped records len below members filled r s e =
     let sums : counts (take below records) + r.count ≡ filled = omega (arith, sum_by-append (λ (r : Record). r.count) (take below records) (r ∷ []), ap counts e, s.counted, counts_cons r []) in
     let start : ℕ = filled - r.count in
     let whole : start + r.count ≡ filled = omega arith in
-    let rest : r.count ≡ filled - start = omega arith in
-    let new : List ℕ = take r.count (drop start members) in
-    let long : length new ≡ r.count = length-take-le r.count (drop start members) (omega (arith, length-drop start members, s.members_held)) in
+    let part : r.count ≡ filled - start = omega arith in
+    let long : length (take r.count (drop start members)) ≡ r.count = length-take-le r.count (drop start members) (omega (arith, length-drop start members, s.members_held)) in
     let low : length (take start members) ≡ start = length-take-le start members (omega (arith, s.members_held)) in
-    record {
-      part = omega arith;
-      counted = omega arith;
-      entries =
-          ap (λ rs. entries_on [] rs (take filled members)) e
-          ∙ ap (λ k. entries_on [] (take below records ++ r ∷ []) (take k members)) (sym whole)
-          ∙ ap (entries_on [] (take below records ++ r ∷ [])) (take-add start r.count members)
-          ∙ on_more [] (take below records) r (take start members) new (omega (arith, sums, whole, low)) long
-          ∙ ap (λ k. entry r (take k (drop start members)) ∷ entries_on [] (take below records) (take start members)) rest;
-    }
+    ap (λ rs. entries_on [] rs (take filled members)) e
+    ∙ ap (λ k. entries_on [] (take below records ++ r ∷ []) (take k members)) (sym whole)
+    ∙ ap (entries_on [] (take below records ++ r ∷ [])) (take-add start r.count members)
+    ∙ on_more [] (take below records) r (take start members) (take r.count (drop start members)) (omega (arith, sums, whole, low)) long
+    ∙ ap (λ k. entry r (take k (drop start members)) ∷ entries_on [] (take below records) (take start members)) part
 
 abbrev shelving : List ToldEntry → ℕ → ℕ → Shelving
 shelving l q k = record { entries = l; qubits = q; checks = k }
@@ -104,8 +94,3 @@ module _ (records : List Record) (len : ℕ) (members : List ℕ) (filled : ℕ)
   on_top records' len' members' filled' r new n e f m k =
       ap (λ l. shelving l (length members') (length records')) (ap₂ (entries_on []) e f ∙ on_more [] (take len records) r (take filled members) new counted n)
       ∙ ap₂ (shelving (entry r new ∷ entries_on [] (take len records) (take filled members))) m k
-
--- what a push that went well or not says of its test
-pub ok_is : {E : Type 0} (b : Bool) (x : E) (r : Result (Unit {0}) E) → r ≡ (if b then Ok tt else Err x) → is_ok r ≡ b
-ok_is true x r e = ap is_ok e
-ok_is false x r e = ap is_ok e

@@ -1,44 +1,37 @@
-use Rattle.std.proofs.Common.{◌≡◌, ℕ, ◌+◌, ◌<◌, ◌≤◌, true, false, ltb, is_ok, List, [], ◌∷◌, ◌++◌, length, take, get_or, sym, refl, ap, ◌∙◌, rules, arith}
+use Rattle.std.proofs.Common.{◌≡◌, ℕ, ◌+◌, ◌<◌, ◌≤◌, true, false, ltb, is_ok, List, [], ◌∷◌, ◌++◌, length, take, sym, refl, ap, ◌∙◌, rules, arith}
 use Rattle.std.proofs.lemmas.Bool.{ltb-true, ltb-false}
 use Rattle.std.proofs.lemmas.List.{with_items_is}
 use Rattle.std.proofs.Math.Seq.{take-length}
 use Rattle.std.specs.Vec.{with_items}
-use Rattle.shelf.specs.Shelving.{Shelving, has_room, with_entry}
+use Rattle.shelf.specs.Shelving.{Shelving, with_entry}
 use Rattle.shelf.specs.Stacked.{seen}
 use Rattle.shelf.specs.declared.Record.{Record}
-use Rattle.shelf.proofs.Stacks.{too_many, no_record, room, on_top, ok_is}
+use Rattle.shelf.proofs.Stacks.{too_many, no_record, room, on_top}
 use Rattle.shelf.proofs.Shelf.put.Goals as goal
 
 pub returns-in_err-or-clause-test : goal.returns-in_err-or-clause-test
 returns-in_err-or-clause-test c =
     let s = c.self.inside in
     let refused : is_ok c.from_residual.result ≡ false = search rules in
-    let full : is_ok c.push.result ≡ false = search rules in
-    let test : ltb c.loop-q.filled (length c.deref_mut.result.now) ≡ false = sym (ok_is (ltb c.loop-q.filled (length c.deref_mut.result.now)) (get_or c.args.members.now c.loop-q.q-index 0) c.push.result c.push.ensures.test) ∙ full in
-    let past : length s.members.items < s.filled + length c.args.members.now = omega (arith, ltb-false c.loop-q.filled (length c.deref_mut.result.now) test, c.deref_mut.ensures.len, ap (length {A = ℕ}) c.deref_mut.ensures.value) in
-    refused ∙ sym (ap (λ (v : Shelving). has_room v c.args.members.now) (sym c.self.view_is) ∙ too_many s.records.items s.height s.members.items s.filled c.self.invariant c.args.members.now past)
+    let test : ltb c.loop-q.filled (length c.deref_mut.result.now) ≡ false = search rules in
+    let past : length s.members.items < s.filled + length c.args.members.now = omega (arith, ltb-false c.loop-q.filled (length c.deref_mut.result.now) test, ap (length {A = ℕ}) c.deref_mut.ensures.value) in
+    rw (← c.self.view_is) (refused ∙ sym (too_many s.records.items s.height s.members.items s.filled c.self.invariant c.args.members.now past))
 
 pub returns-in_err-or-2-clause-test : goal.returns-in_err-or-2-clause-test
 returns-in_err-or-2-clause-test c =
     let s = c.self.inside in
-    let slots : List Record = c.deref_mut-2.result.now in
     let refused : is_ok c.from_residual-in_err-or-2.result ≡ false = search rules in
-    let full : is_ok c.push-2.result ≡ false = search rules in
-    let same : slots ≡ s.records.items = rw c.loop-q.invariant.records at c.deref_mut-2.ensures.value in
-    let test : ltb c.loop-q.self-inside.height (length slots) ≡ false = sym (ok_is (ltb c.loop-q.self-inside.height (length slots)) (record { count = length c.args.members.now; check = c.args.check }) c.push-2.result c.push-2.ensures.test) ∙ full in
-    let past : length s.records.items ≤ s.height = omega (arith, ltb-false c.loop-q.self-inside.height (length slots) test, ap (length {A = Record}) same) in
-    refused ∙ sym (ap (λ (v : Shelving). has_room v c.args.members.now) (sym c.self.view_is) ∙ no_record s.records.items s.height s.members.items s.filled c.self.invariant c.args.members.now past)
+    let test : ltb c.loop-q.self-inside.height (length c.deref_mut-2.result.now) ≡ false = search rules in
+    let past : length s.records.items ≤ s.height = omega (arith, ltb-false c.loop-q.self-inside.height (length c.deref_mut-2.result.now) test, ap (length {A = Record}) (rw c.loop-q.invariant.records at c.deref_mut-2.ensures.value)) in
+    rw (← c.self.view_is) (refused ∙ sym (no_record s.records.items s.height s.members.items s.filled c.self.invariant c.args.members.now past))
 
 pub returns-clause-test : goal.returns-clause-test
 returns-clause-test c =
     let s = c.self.inside in
-    let slots : List Record = c.deref_mut-2.result.now in
-    let put : is_ok c.push-2.result ≡ true = search rules in
-    let same : slots ≡ s.records.items = rw c.loop-q.invariant.records at c.deref_mut-2.ensures.value in
-    let test : ltb c.loop-q.self-inside.height (length slots) ≡ true = sym (ok_is (ltb c.loop-q.self-inside.height (length slots)) (record { count = length c.args.members.now; check = c.args.check }) c.push-2.result c.push-2.ensures.test) ∙ put in
-    let place : s.height < length s.records.items = omega (arith, ltb-true c.loop-q.self-inside.height (length slots) test, ap (length {A = Record}) same) in
+    let test : ltb c.loop-q.self-inside.height (length c.deref_mut-2.result.now) ≡ true = search rules in
+    let place : s.height < length s.records.items = omega (arith, ltb-true c.loop-q.self-inside.height (length c.deref_mut-2.result.now) test, ap (length {A = Record}) (rw c.loop-q.invariant.records at c.deref_mut-2.ensures.value)) in
     let places : s.filled + length c.args.members.now ≤ length s.members.items = omega arith in
-    sym (ap (λ (v : Shelving). has_room v c.args.members.now) (sym c.self.view_is) ∙ room s.records.items s.height s.members.items s.filled c.self.invariant c.args.members.now place places)
+    rw (← c.self.view_is) (sym (room s.records.items s.height s.members.items s.filled c.self.invariant c.args.members.now place places))
 
 pub returns-clause-entries : goal.returns-clause-entries
 returns-clause-entries c =

@@ -59,6 +59,7 @@ impl Shelf {
         ensures { self.new ≡ without_newest self.old }
     {
         if let Some(top) = pop(&self.records, &mut self.height) {
+            // Members come off one by one, as they went on, so that there is one text for it.
             for _ in 0..top.count {
                 pop(&self.members, &mut self.filled);
             }

@@ -61,7 +61,7 @@ pub trait Code {
             return Ok(());
         };
         list.reserve(len as usize)?;
-        // Kept: a code is asked for a row's k-th qubit (docs/architecture.md, program forms), so k is what is asked and picks no element.
+        // Kept: a code is asked for a row's k-th qubit (docs/codes.md), so k is what is asked and picks no element.
         for k in 0..len {
             let Some(qubit) = self.row_qubit(row, k) else {
                 return unreachable();

@@ -6,11 +6,11 @@ use played::answers::{Found, Sizes};
 use played::codes::{listed_in, product_in};
 use played::line::Line;
 use played::numbers::Numbers;
+use played::questions::Asked;
 use played::refused::Refused;
 use product::product::Product;
 use std::alloc::{AllocError, Global};
 use terms::refusal::Refusal;
-use terms::row::Row;
 
 #[derive(Drop)]
 pub(crate) enum Held {
@@ -28,8 +28,8 @@ impl Held {
         match question.word() {
             "product" => self.after(heap, product_in(heap, numbers).map(Held::Product)),
             "listed" => self.after(heap, listed_in(heap, numbers).map(Held::Listed)),
-            "turned" => self.turned().answered(heap, Asked::Sizes),
-            _ => self.answered(heap, Asked::Question(question)),
+            "turned" => self.turned().answered(heap, Wanted::Sizes),
+            _ => self.answered(heap, Wanted::Answer(question)),
         }
     }
 
@@ -40,7 +40,7 @@ impl Held {
         made: Result<Held, Refusal>,
     ) -> Result<(Held, String), AllocError> {
         match made {
-            Ok(held) => held.answered(heap, Asked::Sizes),
+            Ok(held) => held.answered(heap, Wanted::Sizes),
             Err(refusal) => Ok((self, Refused(refusal).text(heap)?)),
         }
     }
@@ -56,29 +56,29 @@ impl Held {
     /// The code, and its answer.
     // Kept: an arm for each code, all with the one generic call. A function that lends the code to a closure would take an
     // `FnOnce(&dyn Code) -> R`, and the check cannot state an item with such a bound.
-    fn answered(self, heap: Global, asked: Asked) -> Result<(Held, String), AllocError> {
+    fn answered(self, heap: Global, wanted: Wanted) -> Result<(Held, String), AllocError> {
         let answer = match &self {
-            Held::Nothing => asked.answer_of_nothing(heap),
-            Held::Product(code) => asked.answer_of(heap, code),
-            Held::TurnedProduct(code) => asked.answer_of(heap, code),
-            Held::Listed(code) => asked.answer_of(heap, code),
-            Held::TurnedListed(code) => asked.answer_of(heap, code),
+            Held::Nothing => wanted.answer_of_nothing(heap),
+            Held::Product(code) => wanted.answer_of(heap, code),
+            Held::TurnedProduct(code) => wanted.answer_of(heap, code),
+            Held::Listed(code) => wanted.answer_of(heap, code),
+            Held::TurnedListed(code) => wanted.answer_of(heap, code),
         };
         Ok((self, answer?))
     }
 }
 
-/// What a line asks of the code that is held once it was played: the sizes after a making, or a question.
+/// What is told of the code that is held once a line was played: the sizes after a making, or the answer to a question.
 #[derive(Clone, Copy)]
-enum Asked<'q> {
+enum Wanted<'q> {
     Sizes,
-    Question(&'q Line),
+    Answer(&'q Line),
 }
 
-impl Asked<'_> {
+impl Wanted<'_> {
     fn answer_of<C: Code>(self, heap: Global, code: &C) -> Result<String, AllocError> {
         match self {
-            Asked::Sizes => {
+            Wanted::Sizes => {
                 let sizes = Sizes {
                     qubits: code.qubits(),
                     checks: code.checks(),
@@ -86,30 +86,31 @@ impl Asked<'_> {
                 };
                 format!(in heap; "{sizes}")
             }
-            Asked::Question(question) => format!(in heap; "{}", Found(ask_code(code, question))),
+            Wanted::Answer(question) => {
+                let answer = asked_in(question).and_then(|asked| asked_of_code(code, asked));
+                format!(in heap; "{}", Found(answer))
+            }
         }
     }
 
     fn answer_of_nothing(self, heap: Global) -> Result<String, AllocError> {
         match self {
-            Asked::Sizes => String::from_str(heap, "nothing"),
-            Asked::Question(_) => format!(in heap; "{}", Found(None)),
+            Wanted::Sizes => String::from_str(heap, "nothing"),
+            Wanted::Answer(_) => format!(in heap; "{}", Found(None)),
         }
     }
 }
 
-// Kept: these five words stand in `trial_tests` too, which asks tables. One enum of questions would have a reader with a match on the words, and a
-// match on the enum in each program: three where there are two, and a definition of the words besides.
-fn ask_code<C: Code>(code: &C, question: &Line) -> Option<u16> {
-    let mut numbers = Numbers::new(question.numbers());
-    let first = numbers.short();
-    let second = numbers.short();
-    match question.word() {
-        "side" => Some(u16::from(u8::from(code.side(first)?))),
-        "check_size" => code.row_len(Row::Check(first)),
-        "generator_size" => code.row_len(Row::Generator(first)),
-        "check_qubit" => code.row_qubit(Row::Check(first), second),
-        "generator_qubit" => code.row_qubit(Row::Generator(first), second),
-        _ => None,
+fn asked_of_code<C: Code>(code: &C, asked: Asked) -> Option<u16> {
+    match asked {
+        Asked::Side(qubit) => Some(u16::from(u8::from(code.side(qubit)?))),
+        Asked::Size(row) => code.row_len(row),
+        Asked::Qubit(row, place) => code.row_qubit(row, place),
     }
+}
+
+/// The question of a line, if it asks one.
+fn asked_in(question: &Line) -> Option<Asked> {
+    let mut numbers = Numbers::new(question.numbers());
+    Asked::by(question.word(), numbers.short(), numbers.short())
 }

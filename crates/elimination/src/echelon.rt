@@ -25,7 +25,8 @@ const LANES: usize = 16;
 pub(crate) struct Echelon<T> {
     pub(crate) width: usize,
     // Kept: rows end to end in memory for the most columns, since no call but `new` may want memory. A `Vec` of rows, each as long as it is used, would
-    // be 256 blocks, each cleared and resized in `begin` as above, with facts on the length and the room of each, where there is one fact.
+    // be 256 blocks, each cleared and resized in `begin`, with an arm for want of memory that cannot come, and facts on the length and the room of
+    // each, where there is one fact.
     /// The rows, end to end.
     cells: Vec<T>,
     ghost few: { width ≤ MOST },
@@ -99,7 +100,7 @@ impl<T: Value> Echelon<T> {
     }
 
     /// Adds `k` times the row of a column, on the right side and behind the column. What stands before the column is not read again, so the addition
-    /// begins at a place from which on whole vectors fit, which makes it nearly twice as fast.
+    /// begins at a place from which on whole vectors fit (docs/performance.md).
     fn add_row(&self, j: usize, k: T, row: &mut [T])
         requires column { j < self.now.width }
         requires long { length row.old ≡ self.now.width + 1 }

@@ -1,4 +1,5 @@
 pub mod Making
 pub mod Printing
+pub mod Questions
 pub mod Reading
 pub mod Words

@@ -33,7 +33,8 @@ pub fn product_in(heap: Global, numbers: &[u32]) -> Result<Product, Refusal>
     })
 }
 
-// Kept: as `placed` of `naming`, which reads numbers that are no larger than a place's; one function would take the conversion as a closure, and be longer than both.
+// Kept: as `placed` of `naming`, which reads numbers that are no larger than a place's. One function would have a type parameter and a closure with
+// a `requires` and a clause on what it answers, where each has one expression.
 fn places_of(heap: Global, pairs: &[[u32; 2]]) -> Result<Vec<Place>, AllocError>
     ensures { IfOk result (λ v. v.items ≡ map place_of pairs.now) }
 {

@@ -5,4 +5,5 @@ pub mod answers;
 pub mod codes;
 pub mod line;
 pub mod numbers;
+pub mod questions;
 pub mod refused;

@@ -40,7 +40,7 @@ impl<'a> Numbers<'a> {
         *first
     }
 
-    // Kept: `rest` stands at each of the four, since each takes a number off.
+    // Kept: the clause `rest` stands at each of the four, since each takes a number off; a definition would hide one equation behind a word.
     /// The next number as a place in a list.
     pub fn place(&mut self) -> usize
         ensures value { result ≡ slice_index self.old 0 }

@@ -47,7 +47,7 @@ matrix r n f = map (λ a. map (λ b. f a b) (range_with_len 0 n)) (range_with_le
 abbrev pub seed_of : ℕ → ℕ → List Place → List (List Bool)
 seed_of r n places = matrix r n (λ a b. marked a b places)
 
--- the same two of a seed as a call is given it
+-- why a seed as a call is given it is refused, if it is; and the matrix that it is
 abbrev pub fault_of : Seed → Option Refusal
 fault_of s = seed_fault s.rows s.columns s.ones.now
 

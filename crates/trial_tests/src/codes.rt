@@ -6,6 +6,7 @@ use played::answers::{Found, Sizes};
 use played::codes::{listed_in, product_in};
 use played::line::Line;
 use played::numbers::Numbers;
+use played::questions::Asked;
 use played::refused::Refused;
 use product::product::Product;
 use std::alloc::{AllocError, Global};
@@ -110,7 +111,7 @@ impl Codes {
             Asked::Size(Row::Check(k)) if k >= table.checks() => None,
             Asked::Size(Row::Generator(k)) if k >= table.generators() => None,
             Asked::Size(row) => u16::try_from(table.row(row).len()).ok(),
-            Asked::Qubit(row, place) => table.row(row).get(place).copied(),
+            Asked::Qubit(row, place) => table.row(row).get(usize::from(place)).copied(),
         }
     }
 }
@@ -122,27 +123,12 @@ struct Question {
     asked: Asked,
 }
 
-#[derive(Drop)]
-enum Asked {
-    Side(u16),
-    Size(Row),
-    Qubit(Row, usize),
-}
-
 impl Question {
     /// None where the step asks nothing of a code.
     fn read(step: &Line) -> Option<Question> {
         let mut numbers = Numbers::new(step.numbers());
         let code = numbers.place();
-        let first = numbers.short();
-        let asked = match step.word() {
-            "side" => Asked::Side(first),
-            "check_size" => Asked::Size(Row::Check(first)),
-            "generator_size" => Asked::Size(Row::Generator(first)),
-            "check_qubit" => Asked::Qubit(Row::Check(first), numbers.place()),
-            "generator_qubit" => Asked::Qubit(Row::Generator(first), numbers.place()),
-            _ => return None,
-        };
+        let asked = Asked::by(step.word(), numbers.short(), numbers.short())?;
         Some(Question { code, asked })
     }
 }

@@ -1,8 +1,9 @@
-//! The erased qubits of a trial.
+//! Which qubits are erased, and how many of them each check holds.
 ghost use Rattle.std.specs.Prelude.{◌≡◌, ◌<◌, ◌==◌, false, length, replicate, IfOk, slice_set};
 ghost use Rattle.sets.specs.Sets.{row, meet, size};
 ghost use Rattle.meaning.specs.Meaning.{qubits};
 ghost use Rattle.rules.specs.declared.answers.Status.TheVariants.{Erased, Done};
+ghost use Rattle.rules.specs.Calls.{some_outside};
 ghost use Rattle.rules.specs.Reports.{some_past};
 ghost use Rattle.table.specs.OfTable.{meaning_of};
 ghost use Rattle.upkeep.specs.Changed.{changed};
@@ -10,10 +11,11 @@ ghost use Rattle.upkeep.specs.Counts.{counts_in};
 ghost use Rattle.upkeep.specs.Statuses.{erased_of};
 
 use marking::changing::{lower, raise};
-use marking::statuses::is_erased;
+use marking::statuses::{all_erased, is_erased};
 use rules::answers::Status;
 use std::alloc::{AllocError, Global};
 use table::Table;
+use terms::row::Row;
 
 /// The status of each qubit of a table's code, and how many erased qubits each check holds.
 #[derive(Drop)]
@@ -62,6 +64,17 @@ impl Erasures<'_> {
         ensures { result ≡ (size (meet (row (meaning_of self.now.table.now).checks check) (erased_of self.now.status.items)) == 1) }
     {
         self.held.get(check as usize) == Some(&1)
+    }
+
+    /// Whether one of these generators has a qubit that is not erased.
+    pub(crate) fn some_outside(&self, generators: &[u16]) -> bool
+        requires { some_past (length (meaning_of self.now.table.now).generators) generators.now ≡ false }
+        ensures { result ≡ some_outside (meaning_of self.now.table.now).generators (erased_of self.now.status.items) generators.now }
+    {
+        generators.iter().any(|g| !all_erased(
+            self.table.row(Row::Generator(*g)),
+            self.status.as_slice(),
+        ))
     }
 
     /// A qubit is done, and counts in its checks no more.

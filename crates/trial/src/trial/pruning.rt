@@ -1,22 +1,17 @@
 //! Pruning a qubit with a list of generators.
-ghost use Rattle.std.specs.Prelude.{◌≡◌, false, length};
+ghost use Rattle.std.specs.Prelude.{◌≡◌};
 ghost use Rattle.terms.specs.Answering.{checked};
 ghost use Rattle.sets.specs.Sets.{has};
-ghost use Rattle.meaning.specs.Meaning.{qubits};
-ghost use Rattle.rules.specs.Reports.{some_past, product};
-ghost use Rattle.rules.specs.Calls.{some_outside, prune_bars, prune};
+ghost use Rattle.rules.specs.Reports.{product};
+ghost use Rattle.rules.specs.Calls.{prune_bars, prune};
 ghost use Rattle.table.specs.OfTable.{meaning_of};
 ghost use Rattle.upkeep.specs.Fault.{fault};
-ghost use Rattle.upkeep.specs.Statuses.{erased_of};
 
 use super::Trial;
 use crate::slip::Slip;
 use marking::looking::some_past;
-use marking::statuses::all_erased;
-use rules::answers::Status;
 use table::Table;
 use terms::refusal::Refusal;
-use terms::row::Row;
 
 impl Trial<'_> {
     /// Prunes a qubit with a list of 1 to 4 generators, all of whose qubits are erased, and of whose entries an odd number holds it: the qubit is done, unflipped.
@@ -46,11 +41,7 @@ impl Trial<'_> {
         if self.void {
             return Err(Refusal::NoSolution);
         }
-        if some_outside(
-            self.erasures.table,
-            generators,
-            self.erasures.status.as_slice(),
-        ) {
+        if self.erasures.some_outside(generators) {
             return Err(Refusal::GeneratorNotErased);
         }
         if !is_named_oddly(self.erasures.table, generators, qubit) {
@@ -61,17 +52,6 @@ impl Trial<'_> {
         }
         Ok(())
     }
-}
-
-/// Whether some entry has a qubit that is not erased.
-fn some_outside(table: &Table, generators: &[u16], status: &[Status]) -> bool
-    requires named { some_past (length (meaning_of table.now).generators) generators.now ≡ false }
-    requires fit { length status.now ≡ qubits (meaning_of table.now) }
-    ensures { result ≡ some_outside (meaning_of table.now).generators (erased_of status.now) generators.now }
-{
-    generators
-        .iter()
-        .any(|g| !all_erased(table.row(Row::Generator(*g)), status))
 }
 
 /// Whether the qubit lies in an odd number of the entries.

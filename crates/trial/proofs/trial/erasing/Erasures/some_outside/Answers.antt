@@ -17,7 +17,7 @@ use Rattle.table.specs.declared.Table.{Table}
 use Rattle.upkeep.specs.Rows.{all_in}
 use Rattle.upkeep.specs.Statuses.{is_erased, erased_of}
 use Rattle.upkeep.proofs.Rows.{all_within}
-use Rattle.trial.proofs.trial.pruning.some_outside.Goals as goal
+use Rattle.trial.proofs.trial.erasing.Erasures.some_outside.Goals as goal
 
 -- all qubits that are told of a generator are erased exactly if its set is
 told_within : (t : Table) (status : List Status) → length status ≡ qubits (meaning_of t) → (g : ℕ) → ltb g (length (meaning_of t).generators) ≡ true
@@ -37,7 +37,7 @@ told_outside t status fit (g ∷ l) named =
 
 pub returns : goal.returns
 returns c =
-    let t = c.args.table.now in
-    let status = c.args.status.now in
+    let t = c.args.self.now.table.now in
+    let status = c.args.self.now.status.items in
     any_from_yields_List (λ g. not (all_in (erased_of status) (told_of t (Generator g)))) _ _ _ c.any.ensures.ran (YieldsList-from_slice c.args.generators.now cc) (λ x b q k. search (rules, tests))
-    ∙ told_outside t status c.requires.fit c.args.generators.now c.requires.named
+    ∙ told_outside t status c.args.self.now.fit c.args.generators.now c.requires

@@ -36,6 +36,6 @@ abbrev pub WhereStated : System → (Meaning → List Bool → List Bool → Lis
 WhereStated e P = (M : Meaning) (k among odds : List Bool) → Stated e M k among odds → P M k among odds
 
 -- a refused call changes nothing
-abbrev pub KeptIfRefused : Result (Unit {0}) Refusal → System → System → Type 0
+abbrev pub KeptIfRefused : {X : Type 0} → Result X Refusal → System → System → Type 0
 KeptIfRefused (Ok x) e e' = Unit {0}
 KeptIfRefused (Err f) e e' = e' ≡ e

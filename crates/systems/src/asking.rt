@@ -1,13 +1,19 @@
 //! What a system answers.
-ghost use Rattle.std.specs.Prelude.{◌≡◌, ◌≤◌, ◌<◌, Bool, true, false, List, length, IfSome, IfNone};
-ghost use Rattle.sets.specs.Sets.{has};
+ghost use Rattle.std.specs.Prelude.{◌≡◌, ◌≤◌, ◌<◌, Bool, true, false, List, length, Err, IfSome, IfNone};
+ghost use Rattle.terms.specs.Answering.{Answers};
+ghost use Rattle.terms.specs.declared.refusal.Refusal.TheVariants.{NotRising};
+ghost use Rattle.sets.specs.Sets.{has, size, empty, elements};
+ghost use Rattle.rules.specs.Reports.{rises};
 ghost use Rattle.rules.specs.Systems.{solutions};
+ghost use Rattle.upkeep.specs.Changed.{marked};
+ghost use Rattle.elimination.specs.Calls.{too_many};
 ghost use Rattle.table.specs.OfTable.{meaning_of};
 ghost use Rattle.systems.specs.Told.{Found, free_beside, spread};
-ghost use Rattle.systems.specs.Stated.{Stated, WhereStated, unknowns_of, least_of};
+ghost use Rattle.systems.specs.Stated.{Stated, WhereStated, KeptIfRefused, unknowns_of, least_of};
 
 use super::System;
 use table::Table;
+use terms::refusal::Refusal;
 
 impl System {
     /// The slack, if there is a solution. The least one is then in `least`; without one, what was there stays.
@@ -19,6 +25,23 @@ impl System {
             return None;
         }
         self.elimination.slack()
+    }
+
+    /// Solves the system of these unknowns, which rise, and these checks, each odd if it is marked so.
+    pub fn solve_for(
+        &mut self,
+        table: &Table,
+        unknowns: &[u16],
+        checks: &[u16],
+        odd: &[bool],
+    ) -> Result<Option<u16>, Refusal>
+        ensures solved { (k : List Bool) → elements k ≡ unknowns.now → length odd.now ≡ length (meaning_of table.now).checks → Answers result (too_many (size k)) (λ slack. let M = meaning_of table.now in let among = marked checks.now (empty (length M.checks)) in Stated self.new M k among odd.now × Found (solutions M.checks k among odd.now) slack (spread k (least_of self.new))) }
+        ensures falling { rises unknowns.now ≡ false → result ≡ Err NotRising }
+        ensures kept { KeptIfRefused result self.old self.new }
+    {
+        self.begin(unknowns)?;
+        self.add_all(table, checks, odd);
+        Ok(self.solve())
     }
 
     /// The unknowns, rising.

@@ -1,0 +1,5 @@
+pub mod Sides
+pub mod Told
+pub mod Scratch
+pub mod Walking
+pub mod Sorting

@@ -1,0 +1,4 @@
+pub mod Seen
+pub mod Waiting
+pub mod Steps
+pub mod Found

@@ -3,3 +3,4 @@ pub mod Told
 pub mod Scratch
 pub mod Walking
 pub mod Sorting
+pub mod Cluster

@@ -1,6 +1,6 @@
 -- A list of distinct numbers that is sorted is the elements of its set in rising order.
 use Rattle.std.proofs.Common.{◌≡◌, ℕ, zero, suc, ◌+◌, ◌-◌, ◌<◌, ◌≤◌, ◌≢◌, Bool, true, false, ◌||◌, eqb, ◌⊎◌, List, [], ◌∷◌, length, get_or, ◌↔◌, sym, refl, ap, ◌∙◌, subst, inl, inr, arith, eqb-true, eq-eqb}
-use borrow.Author.Tests.{eqb-false, ne-eqb}
+use borrow.Author.Tests.{eqb-false, ne_eqb}
 use mathlib.Core.Bool.{false≢true}
 use Rattle.std.specs.List.{list_any, IsDistinct, AllByRecursion}
 use Rattle.std.specs.List.Sorted.{IsPermutation, IsNonDecreasingBy}
@@ -24,15 +24,13 @@ eqb_flips x y = go (eqb x y) refl
   where
     go : (b : Bool) → eqb x y ≡ b → b ≡ eqb y x
     go true e = sym (eq-eqb y x (sym (eqb-true x y e)))
-    go false e = sym (ne-eqb y x (λ h. eqb-false x y e (sym h)))
+    go false e = sym (ne_eqb y x (λ h. eqb-false x y e (sym h)))
 
 none_to : (x : ℕ) (l : List ℕ) → (In x l → ⊥) → AllByRecursion (λ y. eqb x y ≡ false) l
-unfolding AllByRecursion
 none_to x [] n = tt
-none_to x (y ∷ l) n = (ne-eqb x y (λ e. n (inl e)), none_to x l (λ i. n (inr i)))
+none_to x (y ∷ l) n = (ne_eqb x y (λ e. n (inl e)), none_to x l (λ i. n (inr i)))
 
 none_from : (x : ℕ) (l : List ℕ) → AllByRecursion (λ y. eqb x y ≡ false) l → In x l → ⊥
-unfolding AllByRecursion
 none_from x [] a i = i
 none_from x (y ∷ l) a (inl e) = clash (eq-eqb x y e) a.0
 none_from x (y ∷ l) a (inr i) = none_from x l a.1 i

@@ -1,6 +1,7 @@
 //! The walk over a cluster: its members and its checks.
 #![tactic(auto)]
 
+mod finding;
 pub mod found;
 mod ground;
 mod pending;

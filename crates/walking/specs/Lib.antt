@@ -2,3 +2,4 @@ pub mod Seen
 pub mod Waiting
 pub mod Steps
 pub mod Found
+pub mod Walked

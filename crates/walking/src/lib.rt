@@ -7,3 +7,4 @@ mod ground;
 mod pending;
 mod scene;
 mod steps;
+pub mod walker;

@@ -4,3 +4,4 @@ pub mod Scratch
 pub mod Walking
 pub mod Sorting
 pub mod Cluster
+pub mod Lent

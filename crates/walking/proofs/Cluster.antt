@@ -1,15 +1,15 @@
 -- What is true once a walk is over: the members are the cluster, and the checks met are those of the cluster.
-use Rattle.std.proofs.Common.{◌≡◌, ℕ, zero, suc, ◌<◌, ◌≤◌, Bool, true, false, cond, not, ◌&&◌, ltb, ◌⊎◌, List, [], ◌∷◌, length, get_or, vec_items, sym, refl, ap, ◌∙◌, subst, inl, inr, arith, ltb-true, ltb-false}
+use Rattle.std.proofs.Common.{◌≡◌, ℕ, ◌<◌, ◌≤◌, Bool, true, false, cond, not, ◌&&◌, ltb, ◌⊎◌, List, [], ◌∷◌, length, vec_items, sym, refl, ap, ◌∙◌, subst, inl, inr, arith, ltb-true, ltb-false}
 use Rattle.std.proofs.lemmas.Bool.{cases_Bool, and_parts, and_from, not-true, not_from_false, false_from_ne_true}
 use Rattle.std.proofs.lemmas.List.{get_or_past}
 use Rattle.sets.specs.Lists.{In, Distinct}
-use Rattle.sets.specs.Sets.{has, row, any, size, lowest, meets, holders, among}
+use Rattle.sets.specs.Sets.{has, row, size, lowest, meets, holders, among}
 use Rattle.sets.proofs.Bits.{clash, same}
 use Rattle.sets.proofs.Numbers.{in_among, among_in, distinct_repeats, told_once}
 use Rattle.sets.proofs.Sets.{has_meet, has_less, has_holders, has_any}
 use Rattle.sets.proofs.Sizes.{lowest_has}
 use Rattle.meaning.specs.Meaning.{Meaning, Sound, qubits}
-use Rattle.rules.specs.Clusters.{same_side, other_side, touched, cluster, connecting, internal, Reached, itself, onward}
+use Rattle.rules.specs.Clusters.{other_side, touched, cluster, connecting, internal, Reached, itself, onward}
 use Rattle.rules.specs.States.{State}
 use Rattle.rules.proofs.Cluster.{is_touched, of_touched}
 use Rattle.rules.proofs.Reached.{cluster_reached}

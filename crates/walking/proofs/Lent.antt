@@ -1,5 +1,5 @@
 -- Scratch bytes that have no fault.
-use Rattle.std.proofs.Common.{◌≡◌, ℕ, zero, suc, ◌≤◌, ◌<◌, Bool, true, false, not, ◌&&◌, ◌||◌, eqb, ltb, List, [], ◌∷◌, length, get_or, take, Some, None, Ok, Err, Option, Result, is_ok, is_some, sym, refl, ap, ◌∙◌, true≢false, arith, ltb-true, ltb-false, eq-eqb, eqb-true}
+use Rattle.std.proofs.Common.{◌≡◌, ℕ, zero, suc, ◌≤◌, ◌<◌, true, false, not, eqb, ltb, List, [], ◌∷◌, length, get_or, take, Some, None, Option, is_ok, is_some, refl, ap, true≢false, arith, ltb-true, ltb-false, eqb-true}
 use Rattle.std.proofs.lemmas.Bool.{false_from_ne_true, and_parts, or_parts, not-false}
 use Rattle.terms.proofs.Answering.{test_fails}
 use Rattle.terms.specs.Answering.{checked}

@@ -1,5 +1,5 @@
 -- Sides.
-use Rattle.std.proofs.Common.{◌≡◌, ℕ, ◌<◌, Bool, true, false, not, ◌&&◌, List, map, length, Some, sym, refl, ap, ◌∙◌, arith, lt-ltb}
+use Rattle.std.proofs.Common.{◌≡◌, ℕ, ◌<◌, Bool, true, false, not, ◌&&◌, map, length, Some, refl, ap, ◌∙◌, arith, lt-ltb}
 use Rattle.std.specs.Option.{option_eq}
 use Rattle.terms.specs.Rows.{side_of}
 use Rattle.terms.specs.contracts.row.SidePartialEq.TheImpl.{eq-value}

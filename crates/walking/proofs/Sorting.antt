@@ -1,5 +1,5 @@
 -- A list of distinct numbers that is sorted is the elements of its set in rising order.
-use Rattle.std.proofs.Common.{◌≡◌, ℕ, zero, suc, ◌+◌, ◌-◌, ◌<◌, ◌≤◌, ◌≢◌, Bool, true, false, ◌||◌, eqb, ◌⊎◌, List, [], ◌∷◌, length, get_or, ◌↔◌, sym, refl, ap, ◌∙◌, subst, inl, inr, arith, eqb-true, eq-eqb}
+use Rattle.std.proofs.Common.{◌≡◌, ℕ, suc, ◌+◌, ◌-◌, ◌<◌, ◌≤◌, ◌≢◌, Bool, true, false, ◌||◌, eqb, List, [], ◌∷◌, length, get_or, sym, refl, ap, ◌∙◌, subst, inl, inr, arith, eqb-true, eq-eqb}
 use borrow.Author.Tests.{eqb-false, ne_eqb}
 use mathlib.Core.Bool.{false≢true}
 use Rattle.std.specs.List.{list_any, IsDistinct, AllByRecursion}

@@ -1,8 +1,7 @@
 -- The steps of a walk keep what is true of it.
-use Rattle.std.proofs.Common.{◌≡◌, ℕ, zero, suc, ◌+◌, ◌<◌, ◌≤◌, ◌≢◌, Bool, true, false, not, eqb, ◌⊎◌, List, [], ◌∷◌, ◌++◌, length, get_or, drop, set, vec_items, vec_capacity, sym, refl, ap, ◌∙◌, subst, inl, inr, arith, length-set, length-append, eqb-true}
+use Rattle.std.proofs.Common.{◌≡◌, ℕ, zero, suc, ◌<◌, ◌≤◌, Bool, true, false, eqb, ◌⊎◌, List, [], ◌∷◌, ◌++◌, length, set, vec_items, vec_capacity, sym, refl, ap, ◌∙◌, subst, inl, inr, arith, length-set, length-append, eqb-true}
 use borrow.Author.Tests.{eqb-false}
 use Rattle.std.proofs.lemmas.List.{get_or-set_same, get_or-set_other}
-use Rattle.sets.specs.Bits.{alike}
 use Rattle.sets.specs.Lists.{In, Distinct}
 use Rattle.sets.specs.Sets.{has, row, marks, meets}
 use Rattle.sets.proofs.Bits.{clash, alike_same}
@@ -12,12 +11,12 @@ use Rattle.sets.proofs.Numbers.{distinct_repeats, told_once}
 use Rattle.sets.proofs.Sets.{has_below, row_in}
 use Rattle.sets.proofs.Sizes.{size_length}
 use Rattle.meaning.specs.Meaning.{Meaning, Sound, qubits}
-use Rattle.rules.specs.Clusters.{same_side, other_side, Reached, itself, onward}
+use Rattle.rules.specs.Clusters.{same_side, other_side, Reached, onward}
 use Rattle.rules.specs.States.{State}
 use Rattle.rules.proofs.Cluster.{cluster_side, side_erased}
 use Rattle.rules.proofs.Reached.{cluster_reached}
 use Rattle.marks.specs.Marks.{is_marked, with_mark}
-use Rattle.walking.specs.Steps.{Roomy, Marked, Touched, Met, Walk, Onward, Rested, Unmarked, Bare}
+use Rattle.walking.specs.Steps.{Marked, Touched, Walk, Onward, Rested, Unmarked, Bare}
 use Rattle.walking.specs.Waiting.{Waiting}
 use Rattle.walking.specs.declared.ground.Ground.{Ground}
 use Rattle.walking.proofs.Scratch.{marked_low, mark_long, mark_beyond, mark_new, mark_old, mark_cases}

@@ -1,5 +1,5 @@
 -- What a walk looks at.
-use Rattle.std.specs.Prelude.{ℕ, Bool, false, List, []}
+use Rattle.std.specs.Prelude.{Bool, false, List, []}
 use Rattle.rules.specs.States.{State}
 
 -- a state of which only the erased qubits and the closed checks are told: no more of it decides what a cluster and its checks are

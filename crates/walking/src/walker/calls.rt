@@ -37,7 +37,13 @@ impl Walker<'_> {
     /// Finds the cluster of an erased qubit and its checks, and answers how many of these are connecting. The scratch bytes, one a qubit, are as they
     /// were then. There is no answer, and nothing changes, where the qubit is not erased, or the statuses or the marks are not those of the code's
     /// qubits and checks, or the scratch bytes have a fault.
-    pub fn walk(&mut self, status: &[Status], closed: &[bool], start: u16, scratch: &mut [u8]) -> Option<Connecting>
+    pub fn walk(
+        &mut self,
+        status: &[Status],
+        closed: &[bool],
+        start: u16,
+        scratch: &mut [u8],
+    ) -> Option<Connecting>
         ensures does { (result, self.new) ≡ walked status.now closed.now start scratch.old self.old }
         ensures scratch { scratch.new ≡ scratch.old }
     {
@@ -74,5 +80,7 @@ impl Walker<'_> {
 fn suits(table: &Table, status: &[Status], closed: &[bool], start: u16) -> bool
     ensures { result ≡ suits (meaning_of table.now) status.now closed.now start }
 {
-    status.len() == table.qubits() as usize && closed.len() == table.checks() as usize && is_erased(start, status)
+    status.len() == table.qubits() as usize
+        && closed.len() == table.checks() as usize
+        && is_erased(start, status)
 }

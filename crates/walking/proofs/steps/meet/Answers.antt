@@ -1,4 +1,4 @@
-use Rattle.std.proofs.Common.{◌≡◌, true, vec_items, refl, sym, ap, ◌∙◌, arith}
+use Rattle.std.proofs.Common.{true, vec_items, refl, sym, ap, ◌∙◌, arith}
 use Rattle.std.specs.Vec.{with_item}
 use Rattle.std.proofs.lemmas.List.{length-map}
 use Rattle.sets.specs.Sets.{has}

@@ -25,10 +25,10 @@ loop-c-preserved-then-not-is_open c =
     let held = holding (meaning_of v.table.now).checks c.args.qubit c.checks_at-c-items.result.now c.checks_at-c-items.ensures c.loop-c.c-index (omega arith) in
     let low : d < length (vec_items c.loop-c.ground.met) = omega (arith, check_low (meaning_of v.table.now).checks d c.args.qubit held, i.walk.roomy.met) in
     let here : has v.closed.now d ≡ false → has (vec_items c.loop-c.ground.met) d ≡ true =
-        λ o. elim c.then-not-is_open.branch [
-          | then-not-is_open-via-then-not-is_open w ↦ absurd (clash (ap not o) (sym c.is_open.ensures ∙ w.if-not-is_open.true))
-          | then-not-is_open-via-else-not-is_open+then-index w ↦ sym (sym w.if-index.true ∙ w.index.ensures ∙ get_or_default (vec_items c.loop-c.ground.met) d w.index.result.now false low)
-        ] in
+    λ o. elim c.then-not-is_open.branch [
+      | then-not-is_open-via-then-not-is_open w ↦ absurd (clash (ap not o) (sym c.is_open.ensures ∙ w.if-not-is_open.true))
+      | then-not-is_open-via-else-not-is_open+then-index w ↦ sym (sym w.if-index.true ∙ w.index.ensures ∙ get_or_default (vec_items c.loop-c.ground.met) d w.index.result.now false low)
+    ] in
     record {
       walk = i.walk;
       onward = i.onward;

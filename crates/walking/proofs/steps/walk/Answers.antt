@@ -1,15 +1,14 @@
-use Rattle.std.proofs.Common.{◌≡◌, ℕ, ◌+◌, ◌-◌, ◌<◌, true, false, List, [], ◌∷◌, ◌++◌, length, vec_items, vec_len, refl, sym, ap, ◌∙◌, subst, inl, inr, arith, length-append}
+use Rattle.std.proofs.Common.{ℕ, ◌<◌, List, [], ◌∷◌, length, vec_items, refl, sym, ap, ◌∙◌, subst, inl, inr, arith, length-append}
 use Rattle.std.proofs.lemmas.List.{length-map}
 use Rattle.sets.specs.Lists.{In}
 use Rattle.sets.specs.Sets.{has, row}
 use Rattle.sets.proofs.Sets.{has_below}
-use Rattle.meaning.specs.Meaning.{qubits}
 use Rattle.rules.specs.Clusters.{itself}
 use Rattle.table.specs.OfTable.{meaning_of}
 use Rattle.table.specs.Stands.{table_sound}
 use Rattle.upkeep.specs.Statuses.{erased_of, is_erased}
 use Rattle.walking.specs.Seen.{seen}
-use Rattle.walking.proofs.Walking.{begun, took, took_onward, took_it, popped, members_space, pending_space, one_more, new_in}
+use Rattle.walking.proofs.Walking.{begun, took, took_onward, took_it, popped, members_space, one_more, new_in}
 use Rattle.walking.proofs.steps.walk.Goals as goal
 
 pub loop-q-init : goal.loop-q-init

@@ -1,4 +1,4 @@
-use Rattle.std.proofs.Common.{◌<◌, not, length, map, sym, ap, ◌∙◌, arith}
+use Rattle.std.proofs.Common.{◌<◌, not, sym, ap, ◌∙◌, arith}
 use Rattle.std.specs.Option.{option_eq}
 use Rattle.sets.specs.Sets.{has}
 use Rattle.sets.proofs.Sets.{has_below}

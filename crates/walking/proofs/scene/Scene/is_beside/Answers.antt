@@ -1,4 +1,4 @@
-use Rattle.std.proofs.Common.{◌<◌, length, map, sym, ap, ◌∙◌, arith}
+use Rattle.std.proofs.Common.{◌<◌, sym, ap, ◌∙◌, arith}
 use Rattle.std.specs.Option.{option_eq}
 use Rattle.sets.proofs.Sets.{has_below}
 use Rattle.terms.specs.contracts.row.SidePartialEq.TheImpl.{eq-value}

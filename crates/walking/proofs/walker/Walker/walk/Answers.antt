@@ -1,6 +1,5 @@
 use Rattle.std.proofs.Common.{◌≡◌, None, Some, Option, cond, length, drop, is_ok, vec_items, sym, ap, ◌∙◌, rules, arith}
 use Rattle.std.proofs.lemmas.Bool.{and_from}
-use Rattle.meaning.specs.Meaning.{qubits}
 use Rattle.rules.specs.Clusters.{cluster, connecting, internal}
 use Rattle.table.specs.OfTable.{meaning_of}
 use Rattle.upkeep.specs.Statuses.{erased_of}
@@ -41,7 +40,7 @@ returns-clause-does c =
     let found : Option Connecting × Findings = (Some (told (connecting M s q K)), record { table = t.now; members = elements K; internal = elements (internal M s q K) }) in
     let view : Findings = record { table = t.now; members = vec_items c.self.inside.ground.members; internal = vec_items c.self.inside.ground.internal } in
     let same : ◌≡◌ {A = Option Connecting × Findings} (Some c.find.result, record { table = t.now; members = vec_items c.find.new.ground.members; internal = vec_items c.find.new.ground.internal }) found =
-        (λ i. (Some (c.find.ensures.connecting i), record { table = t.now; members = c.find.ensures.members i; internal = c.find.ensures.internal i })) in
+    (λ i. (Some (c.find.ensures.connecting i), record { table = t.now; members = c.find.ensures.members i; internal = c.find.ensures.internal i })) in
     same ∙ ap (λ b. cond {A = Option Connecting × Findings} b found (None, view)) (sym yes) ∙ ap (walked st cl q sc) c.self.view_is
 
 pub returns-clause-scratch : goal.returns-clause-scratch

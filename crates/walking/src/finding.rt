@@ -1,13 +1,11 @@
 //! The cluster of a qubit and its checks.
-ghost use Rattle.std.specs.Prelude.{◌≡◌, false, [], ◌∷◌};
+ghost use Rattle.std.specs.Prelude.{◌≡◌, false};
 ghost use Rattle.sets.specs.Sets.{elements};
-ghost use Rattle.rules.specs.Clusters.{cluster, connecting, internal};
-ghost use Rattle.table.specs.OfTable.{meaning_of};
+ghost use Rattle.rules.specs.Clusters.{connecting, internal};
 ghost use Rattle.upkeep.specs.Changed.{changed};
-ghost use Rattle.upkeep.specs.Statuses.{erased_of};
 ghost use Rattle.walking.specs.Found.{listed, told};
-ghost use Rattle.walking.specs.Seen.{seen};
-ghost use Rattle.walking.specs.Steps.{Rested, Unmarked, Same};
+ghost use Rattle.walking.specs.Scenes.{code_of, state_of, cluster_of, SameBytes};
+ghost use Rattle.walking.specs.Steps.{Rested, Unmarked};
 
 use crate::found::Connecting;
 use crate::ground::Ground;
@@ -17,13 +15,13 @@ use marks::Marks;
 
 /// Walks the cluster of the start, lists its members and its internal checks, and tells its connecting checks.
 pub(crate) fn find(scene: &Scene, ground: &mut Ground, marks: &mut Marks) -> Connecting
-    requires rested { Rested (meaning_of scene.now.table.now) ground.old }
-    requires unmarked { Unmarked (meaning_of scene.now.table.now) marks.old.qubits marks.old.scratch.now }
-    ensures rested { Rested (meaning_of scene.now.table.now) ground.new }
-    ensures members { ground.new.members.items ≡ elements (cluster (meaning_of scene.now.table.now) (seen (erased_of scene.now.status.now) scene.now.closed.now) scene.now.start) }
-    ensures internal { let K = cluster (meaning_of scene.now.table.now) (seen (erased_of scene.now.status.now) scene.now.closed.now) scene.now.start in ground.new.internal.items ≡ elements (internal (meaning_of scene.now.table.now) (seen (erased_of scene.now.status.now) scene.now.closed.now) scene.now.start K) }
-    ensures connecting { let K = cluster (meaning_of scene.now.table.now) (seen (erased_of scene.now.status.now) scene.now.closed.now) scene.now.start in result ≡ told (connecting (meaning_of scene.now.table.now) (seen (erased_of scene.now.status.now) scene.now.closed.now) scene.now.start K) }
-    ensures same { Same marks.old.qubits marks.old.scratch.now marks.new.qubits marks.new.scratch.now }
+    requires rested { Rested (code_of scene.now) ground.old }
+    requires unmarked { Unmarked (code_of scene.now) marks.old.qubits marks.old.scratch.now }
+    ensures rested { Rested (code_of scene.now) ground.new }
+    ensures members { ground.new.members.items ≡ elements (cluster_of scene.now) }
+    ensures internal { ground.new.internal.items ≡ elements (internal (code_of scene.now) (state_of scene.now) scene.now.start (cluster_of scene.now)) }
+    ensures connecting { result ≡ told (connecting (code_of scene.now) (state_of scene.now) scene.now.start (cluster_of scene.now)) }
+    ensures same { SameBytes marks.old marks.new }
     ensures lender { marks.new.scratch.ghost_name ≡ marks.old.scratch.ghost_name }
 {
     ground.members.clear();

@@ -1,10 +1,7 @@
 //! What is asked of qubits and checks on a walk.
 ghost use Rattle.std.specs.Prelude.{◌≡◌, not};
 ghost use Rattle.sets.specs.Sets.{has, row, meets};
-ghost use Rattle.rules.specs.Clusters.{same_side, other_side};
-ghost use Rattle.table.specs.OfTable.{meaning_of};
-ghost use Rattle.upkeep.specs.Statuses.{erased_of};
-ghost use Rattle.walking.specs.Seen.{seen};
+ghost use Rattle.walking.specs.Scenes.{code_of, beside, across};
 
 use super::Scene;
 use marking::statuses::is_erased;
@@ -13,14 +10,14 @@ use terms::row::Row;
 impl Scene<'_> {
     /// Whether a qubit is erased, on the side of the start.
     pub(crate) fn is_beside(&self, qubit: u16) -> bool
-        ensures { result ≡ has (same_side (meaning_of self.now.table.now) (seen (erased_of self.now.status.now) self.now.closed.now) self.now.start) qubit }
+        ensures { result ≡ has (beside self.now) qubit }
     {
         is_erased(qubit, self.status) && self.table.side(qubit) == self.table.side(self.start)
     }
 
     /// Whether a qubit is erased, on the other side.
     pub(crate) fn is_across(&self, qubit: u16) -> bool
-        ensures { result ≡ has (other_side (meaning_of self.now.table.now) (seen (erased_of self.now.status.now) self.now.closed.now) self.now.start) qubit }
+        ensures { result ≡ has (across self.now) qubit }
     {
         is_erased(qubit, self.status) && self.table.side(qubit) != self.table.side(self.start)
     }
@@ -34,7 +31,7 @@ impl Scene<'_> {
 
     /// Whether a check holds an erased qubit of the other side.
     pub(crate) fn connects(&self, check: u16) -> bool
-        ensures { result ≡ meets (row (meaning_of self.now.table.now).checks check) (other_side (meaning_of self.now.table.now) (seen (erased_of self.now.status.now) self.now.closed.now) self.now.start) }
+        ensures { result ≡ meets (row (code_of self.now).checks check) (across self.now) }
     {
         // Kept: with `any` and a closure that captures `self` the goal `returns` stayed open.
         for q in self.table.row(Row::Check(check)) {

@@ -1,8 +1,5 @@
 use Rattle.std.proofs.Common.{sym, ◌∙◌, arith, below_more}
-use Rattle.rules.specs.Clusters.{other_side}
-use Rattle.table.specs.OfTable.{meaning_of}
-use Rattle.upkeep.specs.Statuses.{erased_of}
-use Rattle.walking.specs.Seen.{seen}
+use Rattle.walking.specs.Scenes.{across}
 use Rattle.walking.proofs.Told.{met_at, met_nowhere}
 use Rattle.walking.proofs.scene.Scene.connects.Goals as goal
 
@@ -12,11 +9,9 @@ loop-q-preserved c = below_more _ _ c.loop-q.invariant (sym c.is_across.ensures 
 pub returns-then-is_across : goal.returns-then-is_across
 returns-then-is_across c =
     let v = c.args.self.now in
-    let m = other_side (meaning_of v.table.now) (seen (erased_of v.status.now) v.closed.now) v.start in
-    sym (met_at v.table.now c.args.check m c.row-q-items.result.now c.row-q-items.ensures c.loop-q.q-index (omega arith) (sym c.is_across.ensures ∙ c.if-is_across.true))
+    sym (met_at v.table.now c.args.check (across v) c.row-q-items.result.now c.row-q-items.ensures c.loop-q.q-index (omega arith) (sym c.is_across.ensures ∙ c.if-is_across.true))
 
 pub returns : goal.returns
 returns c =
     let v = c.args.self.now in
-    let m = other_side (meaning_of v.table.now) (seen (erased_of v.status.now) v.closed.now) v.start in
-    sym (met_nowhere v.table.now c.args.check m c.row-q-items.result.now c.row-q-items.ensures (λ i h. c.loop-q.invariant i (omega arith)))
+    sym (met_nowhere v.table.now c.args.check (across v) c.row-q-items.result.now c.row-q-items.ensures (λ i h. c.loop-q.invariant i (omega arith)))

@@ -1,7 +1,7 @@
 -- What is true once a walk is over: the members are the cluster, and the checks met are those of the cluster.
 use Rattle.std.proofs.Common.{◌≡◌, ℕ, ◌<◌, ◌≤◌, Bool, true, false, cond, not, ◌&&◌, ltb, ◌⊎◌, List, [], ◌∷◌, length, vec_items, sym, refl, ap, ◌∙◌, subst, inl, inr, arith, ltb-true, ltb-false}
 use Rattle.std.proofs.lemmas.Bool.{cases_Bool, and_parts, and_from, not-true, not_from_false, false_from_ne_true}
-use Rattle.std.proofs.lemmas.List.{get_or_past}
+use Rattle.std.proofs.lemmas.List.{length-map, get_or_past}
 use Rattle.sets.specs.Lists.{In, Distinct}
 use Rattle.sets.specs.Sets.{has, row, size, lowest, meets, holders, among}
 use Rattle.sets.proofs.Bits.{clash, same}
@@ -17,11 +17,39 @@ use Rattle.upkeep.specs.Changed.{changed}
 use Rattle.upkeep.proofs.Changed.{length_changed, changed_at}
 use Rattle.marks.specs.Marks.{is_marked}
 use Rattle.walking.specs.Found.{by_number, told, listed}
-use Rattle.walking.specs.Steps.{Over}
+use Rattle.walking.specs.Scenes.{code_of, state_of, Ended}
+use Rattle.walking.specs.declared.scene.Scene.{Scene}
+use Rattle.marks.specs.declared.Marks.{Marks}
+use Rattle.table.specs.Stands.{table_sound}
+use Rattle.upkeep.specs.Statuses.{is_erased}
 use Rattle.walking.specs.declared.ground.Ground.{Ground}
-use Rattle.walking.proofs.Walking.{beside}
+use Rattle.walking.proofs.Walking.{reached_beside}
 
-module _ (M : Meaning) (sound : Sound M) (s : State) (long : length s.erased ≡ qubits M) (q : ℕ) (on : has s.erased q ≡ true) (n : ℕ) (m : List ℕ) (g : Ground) (o : Over M s q n m g) where
+module _ (v : Scene) (k : Marks) (g : Ground) (o : Ended v k g) where
+  abbrev M : Meaning
+  M = code_of v
+
+  abbrev s : State
+  s = state_of v
+
+  abbrev q : ℕ
+  q = v.start
+
+  abbrev n : ℕ
+  n = k.qubits
+
+  abbrev m : List ℕ
+  m = k.scratch.now
+
+  sound : Sound M
+  sound = table_sound v.table.now
+
+  long : length s.erased ≡ qubits M
+  long = length-map v.status.now is_erased ∙ v.statuses
+
+  on : has s.erased q ≡ true
+  on = v.erased
+
   member : (k : ℕ) → is_marked n m k ≡ true → In k (vec_items g.members)
   member k e = elim (o.walk.qubits.listed k e) [ inl a ↦ a | inr b ↦ absurd (subst (λ (x : List ℕ). In k x) o.empty b) ]
 
@@ -29,7 +57,7 @@ module _ (M : Meaning) (sound : Sound M) (s : State) (long : length s.erased ≡
   reached_marked k itself = o.first
   reached_marked j (onward {i = i} r t) =
       let met : has (vec_items g.met) t.check ≡ true = o.visited i (member i (reached_marked i r)) t.check t.is_open t.holds_i in
-      o.walk.checks.swept t.check met j t.holds_j (beside M sound s long q on j (onward r t))
+      o.walk.checks.swept t.check met j t.holds_j (reached_beside v j (onward r t))
 
   marked_in : (k : ℕ) → is_marked n m k ≡ true → has (cluster M s q) k ≡ true
   marked_in k e = (cluster_reached M sound s long q on k).1 (o.walk.qubits.reached k e)

@@ -1,6 +1,8 @@
 pub mod Sides
 pub mod Told
 pub mod Scratch
+pub mod Ends
+pub mod Onward
 pub mod Walking
 pub mod Sorting
 pub mod Cluster

@@ -1,15 +1,10 @@
 -- The steps of a walk keep what is true of it.
-use Rattle.std.proofs.Common.{◌≡◌, ℕ, zero, suc, ◌<◌, ◌≤◌, Bool, true, false, eqb, ◌⊎◌, List, [], ◌∷◌, ◌++◌, length, set, vec_items, vec_capacity, sym, refl, ap, ◌∙◌, subst, inl, inr, arith, length-set, length-append, eqb-true}
+use Rattle.std.proofs.Common.{◌≡◌, ℕ, ◌<◌, Bool, true, false, eqb, ◌⊎◌, List, [], ◌∷◌, ◌++◌, length, set, vec_items, vec_capacity, sym, refl, ap, ◌∙◌, subst, inl, inr, arith, length-set, length-append, eqb-true}
 use borrow.Author.Tests.{eqb-false}
-use Rattle.std.proofs.lemmas.List.{get_or-set_same, get_or-set_other}
+use Rattle.std.proofs.lemmas.List.{length-map, get_or-set_same, get_or-set_other}
 use Rattle.sets.specs.Lists.{In, Distinct}
-use Rattle.sets.specs.Sets.{has, row, marks, meets}
+use Rattle.sets.specs.Sets.{has, row, meets}
 use Rattle.sets.proofs.Bits.{clash, alike_same}
-use Rattle.sets.proofs.Lists.{in_left, in_right, in_cases, distinct_append}
-use Rattle.sets.proofs.Marks.{length_marks, has_marks}
-use Rattle.sets.proofs.Numbers.{distinct_repeats, told_once}
-use Rattle.sets.proofs.Sets.{has_below, row_in}
-use Rattle.sets.proofs.Sizes.{size_length}
 use Rattle.meaning.specs.Meaning.{Meaning, Sound, qubits}
 use Rattle.rules.specs.Clusters.{same_side, other_side, Reached, onward}
 use Rattle.rules.specs.States.{State}
@@ -21,49 +16,36 @@ use Rattle.walking.specs.Waiting.{Waiting}
 use Rattle.walking.specs.declared.ground.Ground.{Ground}
 use Rattle.walking.proofs.Scratch.{marked_low, mark_long, mark_beyond, mark_new, mark_old, mark_cases}
 use Rattle.walking.proofs.Sides.{beside_is}
+use Rattle.walking.proofs.Ends.{few, check_low, one_more, old_in, new_in, more_once, front_once}
+use Rattle.walking.specs.Scenes.{code_of, state_of}
+use Rattle.walking.specs.declared.scene.Scene.{Scene}
+use Rattle.table.specs.Stands.{table_sound}
+use Rattle.upkeep.specs.Statuses.{is_erased}
 
--- distinct numbers below n are no more than n
-pub few : (n : ℕ) (l : List ℕ) → Distinct l → ((k : ℕ) → In k l → k < n) → length l ≤ n
-few n l d h = omega (arith, told_once l (marks n l) (distinct_repeats l d) (λ k. sym (has_marks n l h k)), size_length (marks n l), length_marks n l)
+module _ (v : Scene) where
+  abbrev M : Meaning
+  M = code_of v
 
--- what is held lies within the code
-pub check_low : (sets : List (List Bool)) (d i : ℕ) → has (row sets d) i ≡ true → d < length sets
-check_low [] d i h = absurd (clash h refl)
-check_low (x ∷ sets) zero i h = omega arith
-check_low (x ∷ sets) (suc d) i h = omega (arith, check_low sets d i h)
+  abbrev s : State
+  s = state_of v
 
-pub held_low : (M : Meaning) → Sound M → (d k : ℕ) → has (row M.checks d) k ≡ true → k < qubits M
-held_low M sound d k h =
-    let b : k < length (row M.checks d) = has_below (row M.checks d) k h in
-    elim (row_in M.checks d) [ inl g ↦ omega (arith, b, sound.checks_range (row M.checks d) g) | inr g ↦ absurd (omega (arith, b, ap length g)) ]
+  abbrev q : ℕ
+  q = v.start
 
--- one more at the end of a list
-pub one_more : (k j : ℕ) (l l' : List ℕ) → l' ≡ l ++ j ∷ [] → In k l' → In k l ⊎ (k ≡ j)
-one_more k j l l' e i = elim (in_cases k l (j ∷ []) (subst (λ (x : List ℕ). In k x) e i)) [ inl a ↦ inl a | inr b ↦ elim b [ inl p ↦ inr p | inr n ↦ absurd n ] ]
+  sound : Sound M
+  sound = table_sound v.table.now
 
-pub old_in : (k j : ℕ) (l l' : List ℕ) → l' ≡ l ++ j ∷ [] → In k l → In k l'
-old_in k j l l' e i = subst (λ (x : List ℕ). In k x) (sym e) (in_left k l (j ∷ []) i)
+  long : length s.erased ≡ qubits M
+  long = length-map v.status.now is_erased ∙ v.statuses
 
-pub new_in : (k j : ℕ) (l l' : List ℕ) → l' ≡ l ++ j ∷ [] → k ≡ j → In k l'
-new_in k j l l' e p = subst (λ (x : List ℕ). In k x) (sym e) (in_right k l (j ∷ []) (inl p))
+  on : has s.erased q ≡ true
+  on = v.erased
 
-more_once : (j : ℕ) (l l' : List ℕ) → l' ≡ l ++ j ∷ [] → Distinct l → (In j l → ⊥) → Distinct l'
-more_once j l l' e d none =
-    subst (λ (x : List ℕ). Distinct x) (sym e)
-    (distinct_append l (j ∷ []) d (λ n. n, tt) (λ x a b. elim b [ inl p ↦ none (subst (λ (y : ℕ). In y l) p a) | inr n ↦ n ]))
-
-front_once : (j : ℕ) (l : List ℕ) → Distinct (l ++ j ∷ []) → Distinct l × (In j l → ⊥)
-front_once j [] d = (tt, λ n. n)
-front_once j (x ∷ l) d =
-    let r = front_once j l d.1 in
-    ((λ i. d.0 (in_left x l (j ∷ []) i), r.0), λ i. elim i [ inl p ↦ d.0 (in_right x l (j ∷ []) (inl (sym p))) | inr h ↦ r.1 h ])
-
-module _ (M : Meaning) (sound : Sound M) (s : State) (long : length s.erased ≡ qubits M) (q : ℕ) (on : has s.erased q ≡ true) where
-  pub beside : (k : ℕ) → Reached M s q k → has (same_side M s q) k ≡ true
-  beside k r = cluster_side M sound s long q on k ((cluster_reached M sound s long q on k).1 r)
+  pub reached_beside : (k : ℕ) → Reached M s q k → has (same_side M s q) k ≡ true
+  reached_beside k r = cluster_side M sound s long q on k ((cluster_reached M sound s long q on k).1 r)
 
   pub reached_erased : (k : ℕ) → Reached M s q k → has s.erased k ≡ true
-  reached_erased k r = side_erased M sound s long q on k (beside k r)
+  reached_erased k r = side_erased M sound s long q on k (reached_beside k r)
 
   one_side : (k : ℕ) → has (same_side M s q) k ≡ true → has M.sides q ≡ has M.sides k
   one_side k e = alike_same (has M.sides q) (has M.sides k) (sym (beside_is M s long q k (side_erased M sound s long q on k e)) ∙ e)
@@ -75,7 +57,7 @@ module _ (M : Meaning) (sound : Sound M) (s : State) (long : length s.erased ≡
       onward r (record {
         erased_i = reached_erased t.qubit r;
         erased_j = side_erased M sound s long q on j there;
-        one_side = sym (one_side t.qubit (beside t.qubit r)) ∙ one_side j there;
+        one_side = sym (one_side t.qubit (reached_beside t.qubit r)) ∙ one_side j there;
         check = c;
         is_open = t.is_open;
         holds_i = t.holds;
@@ -306,20 +288,3 @@ module _ (M : Meaning) (sound : Sound M) (s : State) (long : length s.erased ≡
             swept = all_swept;
           };
         }
-
--- going on
-pub onward_none : (n : ℕ) (m : List ℕ) (g : Ground) → Onward n m g n m g
-onward_none n m g = record { size = refl; members = refl; met = λ d h. h; kept = λ k h. h; long = refl; beyond = refl }
-
-pub onward_then : (n : ℕ) (m : List ℕ) (g : Ground) (n1 : ℕ) (m1 : List ℕ) (g1 : Ground) (n2 : ℕ) (m2 : List ℕ) (g2 : Ground) → Onward n m g n1 m1 g1 → Onward n1 m1 g1 n2 m2 g2 → Onward n m g n2 m2 g2
-onward_then n m g n1 m1 g1 n2 m2 g2 a b = record {
-  size = b.size ∙ a.size;
-  members = b.members ∙ a.members;
-  met = λ d h. b.met d (a.met d h);
-  kept = λ k h. b.kept k (a.kept k h);
-  long = b.long ∙ a.long;
-  beyond = b.beyond ∙ a.beyond;
-}
-
-pub still_touched : (M : Meaning) (s : State) (n : ℕ) (m : List ℕ) (g : Ground) (n' : ℕ) (m' : List ℕ) (g' : Ground) → Onward n m g n' m' g' → (d : ℕ) → Touched M s n m d → Touched M s n' m' d
-still_touched M s n m g n' m' g' o d t = record { is_open = t.is_open; qubit = t.qubit; holds = t.holds; is_in = o.kept t.qubit t.is_in }

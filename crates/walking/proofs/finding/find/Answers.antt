@@ -1,13 +1,12 @@
 use Rattle.std.proofs.Common.{◌≡◌, false, length, vec_items, ap, ◌∙◌, arith}
 use Rattle.std.specs.Vec.{with_items}
-use Rattle.std.proofs.lemmas.List.{length-map, with_items_is}
+use Rattle.std.proofs.lemmas.List.{with_items_is}
 use Rattle.std.proofs.lemmas.List.Sorted.{IsNonDecreasingBy-from_sort}
 use Rattle.sets.specs.Sets.{has}
 use Rattle.rules.specs.Clusters.{cluster, connecting, internal}
 use Rattle.table.specs.OfTable.{meaning_of}
-use Rattle.table.specs.Stands.{table_sound}
 use Rattle.upkeep.specs.Changed.{changed}
-use Rattle.upkeep.specs.Statuses.{erased_of, is_erased}
+use Rattle.upkeep.specs.Statuses.{erased_of}
 use Rattle.upkeep.proofs.Changed.{length_changed}
 use Rattle.walking.specs.Found.{listed}
 use Rattle.walking.specs.Seen.{seen}
@@ -62,45 +61,39 @@ returns-clause-members c =
     let v = c.args.scene.now in
     let M = meaning_of v.table.now in
     let s = seen (erased_of v.status.now) v.closed.now in
-    let long = length-map v.status.now is_erased ∙ v.statuses in
-    let sound = table_sound v.table.now in
     let k = c.walk.new.marks in
     let g = c.walk.new.ground in
     let o = c.walk.ensures.over in
     let did = c.sort_unstable.ensures in
     let l = vec_items c.sort_unstable.new.self in
     sorted_elements (cluster M s v.start) (vec_items g.members) l did.permutation (IsNonDecreasingBy-from_sort (λ x. x) l did.sorted) o.walk.qubits.members_once
-    (member_in M sound s long v.start v.erased k.qubits k.scratch.now g o)
-    (in_member M sound s long v.start v.erased k.qubits k.scratch.now g o)
+    (member_in v k g o)
+    (in_member v k g o)
 
 pub returns-clause-internal : goal.returns-clause-internal
 returns-clause-internal c =
     let v = c.args.scene.now in
     let M = meaning_of v.table.now in
     let s = seen (erased_of v.status.now) v.closed.now in
-    let long = length-map v.status.now is_erased ∙ v.statuses in
-    let sound = table_sound v.table.now in
     let k = c.walk.new.marks in
     let g = c.walk.new.ground in
     let o = c.walk.ensures.over in
     let did = c.sort_unstable-2.ensures in
     let l = vec_items c.sort_unstable-2.new.self in
     sorted_elements (internal M s v.start (cluster M s v.start)) (vec_items g.internal) l did.permutation (IsNonDecreasingBy-from_sort (λ x. x) l did.sorted) o.walk.checks.internal_once
-    (internal_in M sound s long v.start v.erased k.qubits k.scratch.now g o)
-    (in_internal M sound s long v.start v.erased k.qubits k.scratch.now g o)
+    (internal_in v k g o)
+    (in_internal v k g o)
 
 pub returns-clause-connecting : goal.returns-clause-connecting
 returns-clause-connecting c =
     let v = c.args.scene.now in
     let M = meaning_of v.table.now in
     let s = seen (erased_of v.status.now) v.closed.now in
-    let long = length-map v.status.now is_erased ∙ v.statuses in
-    let sound = table_sound v.table.now in
     let k = c.walk.new.marks in
     let g = c.walk.new.ground in
     let o = c.walk.ensures.over in
     c.tell.ensures
     ∙ ap listed c.deref-3.ensures.value
     ∙ listed_told (connecting M s v.start (cluster M s v.start)) (vec_items g.connecting) o.walk.checks.connecting_once
-    (connecting_in M sound s long v.start v.erased k.qubits k.scratch.now g o)
-    (in_connecting M sound s long v.start v.erased k.qubits k.scratch.now g o)
+    (connecting_in v k g o)
+    (in_connecting v k g o)

@@ -5,7 +5,7 @@ use Rattle.sets.specs.Sets.{has}
 use Rattle.sets.proofs.Bits.{clash}
 use Rattle.table.specs.OfTable.{meaning_of}
 use Rattle.walking.proofs.Told.{holding, holder_place}
-use Rattle.walking.proofs.Walking.{check_low}
+use Rattle.walking.proofs.Ends.{check_low}
 use Rattle.walking.proofs.steps.visit.Goals as goal
 use Rattle.walking.proofs.steps.visit.Goals.{then-not-is_open-via-then-not-is_open, then-not-is_open-via-else-not-is_open+then-index}
 

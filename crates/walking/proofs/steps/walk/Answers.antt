@@ -5,24 +5,20 @@ use Rattle.sets.specs.Sets.{has, row}
 use Rattle.sets.proofs.Sets.{has_below}
 use Rattle.rules.specs.Clusters.{itself}
 use Rattle.table.specs.OfTable.{meaning_of}
-use Rattle.table.specs.Stands.{table_sound}
 use Rattle.upkeep.specs.Statuses.{erased_of, is_erased}
-use Rattle.walking.specs.Seen.{seen}
-use Rattle.walking.proofs.Walking.{begun, took, took_onward, took_it, popped, members_space, one_more, new_in}
+use Rattle.walking.proofs.Ends.{one_more, new_in}
+use Rattle.walking.proofs.Walking.{begun, took, took_onward, took_it, popped, members_space}
 use Rattle.walking.proofs.steps.walk.Goals as goal
 
 pub loop-q-init : goal.loop-q-init
 loop-q-init c =
     let v = c.args.scene.now in
-    let M = meaning_of v.table.now in
-    let s = seen (erased_of v.status.now) v.closed.now in
-    let sound = table_sound v.table.now in
     let long = length-map v.status.now is_erased ∙ v.statuses in
     let n = c.args.marks.now.qubits in
     let m = c.args.marks.now.scratch.now in
     let g = c.args.ground.now in
     let r = c.requires in
-    let w = begun M sound s long v.start v.erased n m g r.rested r.bare r.unmarked in
+    let w = begun v n m g r.rested r.bare r.unmarked in
     let low : v.start < n = omega (arith, has_below (erased_of v.status.now) v.start v.erased, long, r.unmarked.all) in
     let p = c.push.new.self in
     let put = c.push.ensures in
@@ -30,10 +26,10 @@ loop-q-init c =
     let m' = c.mark.new.self.scratch.now in
     let did = c.mark.ensures in
     let free = r.unmarked.unmarked v.start in
-    let on = took_onward M sound s long v.start v.erased n m g w v.start itself low free p put.room put.list n' m' did.size did.bytes in
+    let on = took_onward v n m g w v.start itself low free p put.room put.list n' m' did.size did.bytes in
     record {
-      walk = took M sound s long v.start v.erased n m g w v.start itself low free p put.room put.list n' m' did.size did.bytes;
-      first = took_it M sound s long v.start v.erased n m g w v.start itself low free p put.room put.list n' m' did.size did.bytes;
+      walk = took v n m g w v.start itself low free p put.room put.list n' m' did.size did.bytes;
+      first = took_it v n m g w v.start itself low free p put.room put.list n' m' did.size did.bytes;
       visited = λ i h. absurd (subst (λ (x : List ℕ). In i x) r.bare.members h);
       same = record { size = on.size; long = on.long; beyond = on.beyond };
       lender = did.lender;
@@ -42,25 +38,19 @@ loop-q-init c =
 pub push_reserved-requires : goal.push_reserved-requires
 push_reserved-requires c =
     let v = c.args.scene.now in
-    let M = meaning_of v.table.now in
-    let s = seen (erased_of v.status.now) v.closed.now in
-    let long = length-map v.status.now is_erased ∙ v.statuses in
     let l = c.loop-q in
     let w = l.invariant.walk in
     let q = c.in-Some.q in
     let waits = new_in q q c.pop.new.self.list l.ground.pending.list c.in-Some.ensures.list refl in
-    omega (arith, members_space M (table_sound v.table.now) s long v.start v.erased l.marks.qubits l.marks.scratch.now l.ground w q waits, w.roomy.members, l.ground.members.ok.0)
+    omega (arith, members_space v l.marks.qubits l.marks.scratch.now l.ground w q waits, w.roomy.members, l.ground.members.ok.0)
 
 pub visit-requires-clause-walk : goal.visit-requires-clause-walk
 visit-requires-clause-walk c =
     let v = c.args.scene.now in
-    let M = meaning_of v.table.now in
-    let s = seen (erased_of v.status.now) v.closed.now in
-    let long = length-map v.status.now is_erased ∙ v.statuses in
     let l = c.loop-q in
     let o = c.in-Some.ensures in
     let put = c.push_reserved.ensures in
-    popped M (table_sound v.table.now) s long v.start v.erased l.marks.qubits l.marks.scratch.now l.ground (record l.ground { pending = c.pop.new.self; members = c.push_reserved.new.self }) l.invariant.walk c.in-Some.q o.list o.room put.items put.capacity refl refl refl
+    popped v l.marks.qubits l.marks.scratch.now l.ground (record l.ground { pending = c.pop.new.self; members = c.push_reserved.new.self }) l.invariant.walk c.in-Some.q o.list o.room put.items put.capacity refl refl refl
 
 pub visit-requires-clause-marked : goal.visit-requires-clause-marked
 visit-requires-clause-marked c =
@@ -70,14 +60,11 @@ visit-requires-clause-marked c =
 pub loop-q-smaller : goal.loop-q-smaller
 loop-q-smaller c =
     let v = c.args.scene.now in
-    let M = meaning_of v.table.now in
-    let s = seen (erased_of v.status.now) v.closed.now in
-    let long = length-map v.status.now is_erased ∙ v.statuses in
     let l = c.loop-q in
     let w = l.invariant.walk in
     let q = c.in-Some.q in
     let waits = new_in q q c.pop.new.self.list l.ground.pending.list c.in-Some.ensures.list refl in
-    let space = members_space M (table_sound v.table.now) s long v.start v.erased l.marks.qubits l.marks.scratch.now l.ground w q waits in
+    let space = members_space v l.marks.qubits l.marks.scratch.now l.ground w q waits in
     let more = ap length c.visit.ensures.onward.members in
     omega (arith, space, more, ap length c.push_reserved.ensures.items, length-append (vec_items l.ground.members) (q ∷ []), c.visit.ensures.onward.size, l.ground.members.ok.0, c.visit.new.ground.members.ok.0)
 

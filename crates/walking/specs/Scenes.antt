@@ -26,15 +26,18 @@ beside v = same_side (code_of v) (state_of v) v.start
 abbrev pub across : Scene → List Bool
 across v = other_side (code_of v) (state_of v) v.start
 
+-- the cluster of the start
 abbrev pub cluster_of : Scene → List Bool
 cluster_of v = cluster (code_of v) (state_of v) v.start
 
+-- a walk is under way, and a walk is over
 abbrev pub Going : Scene → Marks → Ground → Type 0
 Going v k g = Walk (code_of v) (state_of v) v.start k.qubits k.scratch.now g
 
 abbrev pub Ended : Scene → Marks → Ground → Type 0
 Ended v k g = Over (code_of v) (state_of v) v.start k.qubits k.scratch.now g
 
+-- a check is open and holds a marked qubit; all open checks of a qubit are met
 abbrev pub IsTouched : Scene → Marks → ℕ → Type 0
 IsTouched v k d = Touched (code_of v) (state_of v) k.qubits k.scratch.now d
 
@@ -45,6 +48,7 @@ IsVisited v g i = Visited (code_of v) (state_of v) g i
 abbrev pub IsSwept : Scene → Marks → ℕ → Type 0
 IsSwept v k d = (i : ℕ) → has (row (code_of v).checks d) i ≡ true → has (beside v) i ≡ true → is_marked k.qubits k.scratch.now i ≡ true
 
+-- a walk went on; other marks stand in the same bytes
 abbrev pub WentOn : Marks → Ground → Marks → Ground → Type 0
 WentOn k g k' g' = Onward k.qubits k.scratch.now g k'.qubits k'.scratch.now g'
 

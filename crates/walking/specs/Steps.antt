@@ -45,6 +45,7 @@ pub record Met (M : Meaning) (s : State) (q n : ℕ) (m : List ℕ) (g : Ground)
   pub touched : (d : ℕ) → has (vec_items g.met) d ≡ true → Touched M s n m d
   pub swept : (d : ℕ) → has (vec_items g.met) d ≡ true → (k : ℕ) → has (row M.checks d) k ≡ true → has (same_side M s q) k ≡ true → is_marked n m k ≡ true
 
+-- a walk from q that is under way
 pub record Walk (M : Meaning) (s : State) (q n : ℕ) (m : List ℕ) (g : Ground) : Type 0 where
   pub roomy : Roomy M n m g
   pub qubits : Marked M s q n m g

@@ -49,6 +49,7 @@ fn unmark(places: &[u16], marks: &mut [bool])
     }
 }
 
+/// None, one or several.
 fn tell(checks: &[u16]) -> Connecting
     ensures { result ≡ listed checks.now }
 {

@@ -32,6 +32,7 @@ impl Pending {
         Ok(Pending { slots, len: 0 })
     }
 
+    /// Lets a qubit wait.
     pub(crate) fn push(&mut self, qubit: u16)
         requires { length self.old.list < self.old.room }
         ensures room { self.new.room ≡ self.old.room }
@@ -40,6 +41,7 @@ impl Pending {
         let _room = push(self.slots.as_mut_slice(), &mut self.len, qubit);
     }
 
+    /// The qubit that waits the shortest.
     pub(crate) fn pop(&mut self) -> Option<u16>
         ensures room { self.new.room ≡ self.old.room }
         ensures list { MatchOption result ((self.old.list ≡ []) × (self.new.list ≡ [])) (λ q. self.old.list ≡ self.new.list ++ q ∷ []) }

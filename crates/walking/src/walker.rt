@@ -1,7 +1,4 @@
 //! Walks over clusters of one code.
-ghost use Rattle.std.specs.Prelude.{◌≡◌, [], IfOk};
-ghost use Rattle.table.specs.OfTable.{meaning_of};
-
 use crate::ground::Ground;
 use std::marker::Model;
 use table::Table;

@@ -34,9 +34,9 @@ impl<'t> Walker<'t> {
 }
 
 impl Walker<'_> {
-    /// Finds the cluster of an erased qubit and its checks, and answers how many of these are connecting. The scratch bytes, one a qubit, are as they
-    /// were then. There is no answer, and nothing changes, where the qubit is not erased, or the statuses or the marks are not those of the code's
-    /// qubits and checks, or the scratch bytes have a fault.
+    /// Finds the cluster of an erased qubit and its internal checks, and tells its connecting ones. The scratch bytes, one a qubit, are in the end as
+    /// they were. There is no answer, and nothing changes, where the qubit is not erased, where there is not one status a qubit and one mark a check,
+    /// or where the scratch bytes have a fault.
     pub fn walk(
         &mut self,
         status: &[Status],
@@ -77,6 +77,7 @@ impl Walker<'_> {
     }
 }
 
+/// Whether there is a status for each qubit and a mark for each check, and the start is erased.
 fn suits(table: &Table, status: &[Status], closed: &[bool], start: u16) -> bool
     ensures { result ≡ suits (meaning_of table.now) status.now closed.now start }
 {

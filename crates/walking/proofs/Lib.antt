@@ -1,0 +1,9 @@
+pub mod Sides
+pub mod Told
+pub mod Scratch
+pub mod Ends
+pub mod Onward
+pub mod Walking
+pub mod Sorting
+pub mod Cluster
+pub mod Lent

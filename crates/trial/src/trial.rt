@@ -2,9 +2,10 @@
 ghost use Rattle.table.specs.OfTable.{meaning_of};
 ghost use Rattle.trial.specs.Standing.{Sized, state_of};
 
-use crate::trial::erasing::Erasures;
+use crate::trial::board::Board;
 use std::marker::Model;
 
+mod board;
 pub mod closing;
 mod erasing;
 mod finishing;
@@ -17,16 +18,14 @@ pub mod viewing;
 // Kept: one list for each, since `View`'s public fields lend each as a slice, and the sets of the rules are read off them one by one.
 #[derive(Drop)]
 pub struct Trial<'t> {
-    erasures: Erasures<'t>,
-    flipped: Vec<bool>,
+    board: Board<'t>,
     closed: Vec<bool>,
-    odd: Vec<bool>,
     void: bool,
     number: u32,
     peeled: u16,
     pruned: u16,
     chosen: u16,
-    ghost sized: { Sized (meaning_of erasures.table.now) (state_of erasures.status.items flipped.items closed.items odd.items void number peeled pruned chosen) },
+    ghost sized: { Sized (meaning_of board.erasures.table.now) (state_of board.erasures.status.items board.flipped.items closed.items board.odd.items void number peeled pruned chosen) },
 }
 
 impl<'t> Model for Trial<'t> {

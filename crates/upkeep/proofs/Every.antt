@@ -1,5 +1,5 @@
 -- Qubits that are done one after another are done as one set.
-use Rattle.std.proofs.Common.{◌≡◌, ℕ, zero, suc, ◌+◌, ◌<◌, ◌≤◌, Bool, true, false, cond, ◌||◌, not, ◌&&◌, ◌⊎◌, List, [], ◌∷◌, length, set, sym, refl, ap, ap₂, ◌∙◌, inl, inr, add-zero, arith, length-set}
+use Rattle.std.proofs.Common.{◌≡◌, ℕ, zero, suc, ◌+◌, ◌<◌, ◌≤◌, Bool, true, false, cond, ◌||◌, not, ◌&&◌, ◌⊎◌, List, [], ◌∷◌, length, drop, get_or, set, sym, refl, ap, ap₂, ◌∙◌, inl, inr, add-zero, arith, length-set}
 use lib.ListN.{length-replicate}
 use Rattle.std.proofs.lemmas.List.{length-map}
 use Rattle.std.proofs.lemmas.Bool.{cases_eq}
@@ -26,6 +26,21 @@ one M q f s = finish M (only (qubits M) q) (cond f (only (qubits M) q) (empty (q
 abbrev pub each : Meaning → List ℕ → List Bool → State → State
 each M [] x s = s
 each M (q ∷ l) x s = each M l (tl bits x) (one M q (hd bits x) s)
+
+-- the next one of what is left to do
+each_next : (M : Meaning) (i : ℕ) (l : List ℕ) (x : List Bool) (s : State) → i < length l → each M (drop i l) (drop i x) s ≡ each M (drop (suc i) l) (drop (suc i) x) (one M (get_or l i 0) (has x i) s)
+each_next M i [] x s h = absurd (omega (arith, h))
+each_next M zero (q ∷ l) [] s h = refl
+each_next M zero (q ∷ l) (b ∷ x) s h = refl
+each_next M (suc i) (q ∷ l) [] s h = let h' : i < length l = omega (arith, h) in ap (λ y. each M (drop i l) y s) (sym (drop_nil i)) ∙ each_next M i l [] s h'
+  where
+    drop_nil : (i : ℕ) → ◌≡◌ {A = List Bool} (drop i []) []
+    drop_nil zero = refl
+    drop_nil (suc i) = refl
+each_next M (suc i) (q ∷ l) (b ∷ x) s h = let h' : i < length l = omega (arith, h) in each_next M i l x s h'
+
+pub each_step : (M : Meaning) (i : ℕ) (l : List ℕ) (x : List Bool) (s : State) → i < length l → each M (drop (i + 1) l) (drop (i + 1) x) (one M (get_or l i 0) (has x i) s) ≡ each M (drop i l) (drop i x) s
+each_step M i l x s h = let on : i + 1 ≡ suc i = omega arith in ap (λ k. each M (drop k l) (drop k x) (one M (get_or l i 0) (has x i) s)) on ∙ sym (each_next M i l x s h)
 
 -- a set after j numbers that it lacks
 abbrev shifted : ℕ → List Bool → List Bool

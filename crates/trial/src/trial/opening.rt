@@ -8,6 +8,7 @@ ghost use Rattle.upkeep.specs.Changed.{marked};
 ghost use Rattle.trial.specs.Opening.{Opens, OpenedOn, BegunOn};
 
 use super::Trial;
+use super::board::Board;
 use super::erasing::Erasures;
 use crate::report::Report;
 use crate::slip::Slip;
@@ -58,11 +59,14 @@ fn begin<'t>(
     let flipped = vec![in heap; false; table.qubits() as usize]?;
     let closed = vec![in heap; false; table.checks() as usize]?;
     let odd = marked_marks(heap, table.checks() as usize, report.odd)?;
-    Ok(Trial {
+    let board = Board {
         erasures,
         flipped,
-        closed,
         odd,
+    };
+    Ok(Trial {
+        board,
+        closed,
         void: false,
         number,
         peeled: 0,

@@ -41,7 +41,7 @@ finish-requires c =
     (c.in-Some.ensures ∙ at_fields t slip k fine c.self.inside c.self.view_is _ _ c.as_slice.ensures.value c.row-row.ensures)
 
 pub overflow_add-self : goal.overflow_add-self
-overflow_add-self c = omega (arith, c.self-2.inside.sized.few, (table_sound c.self-2.inside.erasures.table.now).few_qubits)
+overflow_add-self c = omega (arith, c.self-2.inside.sized.few, (table_sound c.self-2.inside.board.erasures.table.now).few_qubits)
 
 pub invariant_of-self-inside : goal.invariant_of-self-inside
 invariant_of-self-inside c =

@@ -22,7 +22,7 @@ returns-in_err-prune_fault-clause-does c =
     ap (λ (r : Result (Unit {0}) Refusal). (r, t.state)) p.1 ∙ sym (fault_some t.state _ bars p.0 (stops p.0 (fault bars) (ap Err p.2 ∙ c.in_err-prune_fault.ensures)))
 
 pub overflow_add-self : goal.overflow_add-self
-overflow_add-self c = omega (arith, c.self.inside.sized.few, (table_sound c.self.inside.erasures.table.now).few_qubits)
+overflow_add-self c = omega (arith, c.self.inside.sized.few, (table_sound c.self.inside.board.erasures.table.now).few_qubits)
 
 pub invariant_of-self-inside : goal.invariant_of-self-inside
 invariant_of-self-inside c =

@@ -117,6 +117,10 @@ log_pow (suc t) (suc k) h = let h' : k ≤ t = omega arith in go (leb (2 ^ suc k
     go true e ih = let l : 2 ^ suc k ≤ 1 = leb→le (2 ^ suc k) 1 (subst T (sym e) tt) in absurd (omega (arith, pow_pos k, two-pow-succ k))
     go false e ih = ap suc (ap (log2 t) half ∙ ih)
 
+-- the slack of 2 ^ k solutions
+pub slack_pow : (k : ℕ) → log2 (2 ^ k) (2 ^ k) ≡ k
+slack_pow k = let b : k ≤ 2 ^ k = omega (arith, below_pow k) in log_pow (2 ^ k) k b
+
 module _ (n : ℕ) (C : List (List Bool)) (K A s : List Bool) (k : length K ≡ n) (a : length A ≡ length C) where
   pub of_solutions : (x : List Bool) → In x (solutions C K A s) → Sys n C (has K) (has A) (has s) x
   of_solutions x h =
@@ -149,8 +153,7 @@ module _ (n : ℕ) (C : List (List Bool)) (K A s : List Bool) (k : length K ≡ 
       go none h = inl (sym (solutions_subsets K (rows C A s)) ∙ h)
       go (some B) h =
           let e : length (solutions C K A s) ≡ 2 ^ Rattle.linear.specs.Basis.slack B = ap length (sym (solutions_subsets K (rows C A s))) ∙ h.1 in
-          let b : Rattle.linear.specs.Basis.slack B ≤ 2 ^ Rattle.linear.specs.Basis.slack B = omega (arith, below_pow (Rattle.linear.specs.Basis.slack B)) in
-          let l : slack (solutions C K A s) ≡ Rattle.linear.specs.Basis.slack B = ap (λ (t : ℕ). log2 t t) e ∙ log_pow (2 ^ Rattle.linear.specs.Basis.slack B) (Rattle.linear.specs.Basis.slack B) b in
+          let l : slack (solutions C K A s) ≡ Rattle.linear.specs.Basis.slack B = ap (λ (t : ℕ). log2 t t) e ∙ slack_pow (Rattle.linear.specs.Basis.slack B) in
           inr (e ∙ ap (λ (t : ℕ). 2 ^ t) (sym l))
 
 -- the same in the words of the definition

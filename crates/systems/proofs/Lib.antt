@@ -1,0 +1,7 @@
+pub mod Places
+pub mod Rows
+pub mod Answers
+pub mod Begun
+pub mod Sorting
+pub mod Searching
+pub mod Reading

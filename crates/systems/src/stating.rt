@@ -1,0 +1,96 @@
+//! Stating a system: its unknowns, and one check after another.
+ghost use Rattle.std.specs.Prelude.{◌≡◌, ◌≤◌, ◌<◌, Bool, true, false, List, [], length, replicate, None, MatchOption, slice_index, slice_set};
+ghost use Rattle.terms.specs.Answering.{Answers, AnswersIfMemory};
+ghost use Rattle.sets.specs.Sets.{has, row, among as listed, size, empty, elements};
+ghost use Rattle.meaning.specs.Meaning.{Meaning};
+ghost use Rattle.linear.specs.Field.{bits};
+ghost use Rattle.linear.specs.System.{Row as Equation};
+ghost use Rattle.linear.specs.Compress.{compress};
+ghost use Rattle.elimination.specs.Holds.{Holds};
+ghost use Rattle.elimination.specs.Calls.{too_many};
+ghost use Rattle.table.specs.OfTable.{meaning_of};
+ghost use Rattle.upkeep.specs.Changed.{marked};
+ghost use Rattle.systems.specs.Told.{ToldOnce};
+ghost use Rattle.systems.specs.Stated.{Stated, KeptIfRefused, unknowns_of};
+
+use super::{MOST, System};
+use elimination::Elimination;
+use std::alloc::Global;
+use table::Table;
+use terms::refusal::Refusal;
+use terms::row::Row;
+
+impl System {
+    /// Room for 256 unknowns, with no unknowns and no checks.
+    pub fn new(heap: Global) -> Result<System, Refusal>
+        ensures { AnswersIfMemory result None (λ e. (M : Meaning) (k odds : List Bool) → elements k ≡ [] → length odds ≡ length M.checks → Stated e M k (empty (length M.checks)) odds) }
+    {
+        Ok(System {
+            elimination: Elimination::new(heap)?,
+            unknowns: vec![in heap; 0; MOST]?,
+            count: 0,
+        })
+    }
+
+    /// Starts a system over these unknowns, in whatever order, with no checks. More than 256 are refused.
+    pub fn begin(&mut self, qubits: &[u16]) -> Result<(), Refusal>
+        ensures begun { Answers result (too_many (length qubits.now)) (λ _. (M : Meaning) (k odds : List Bool) → ToldOnce k qubits.now → length odds ≡ length M.checks → Stated self.new M k (empty (length M.checks)) odds) }
+        ensures kept { KeptIfRefused result self.old self.new }
+    {
+        let count = qubits.len();
+        if count > MOST {
+            return Err(Refusal::TooManyUnknowns);
+        }
+        // Kept: `0..count`, for after `..count` nothing is known of the vector.
+        let unknowns = &mut self.unknowns[0..count];
+        unknowns.copy_from_slice(qubits);
+        unknowns.sort_unstable();
+        self.count = count;
+        self.elimination.begin(count as u16)
+    }
+
+    /// Adds a check, odd or even. One that the code does not have says nothing, and one that was added before says nothing new.
+    pub fn add(&mut self, table: &Table, check: u16, odd: bool)
+        ensures { (k among odds : List Bool) → odd ≡ has odds check → Stated self.old (meaning_of table.now) k among odds → Stated self.new (meaning_of table.now) k (slice_set among check true) odds }
+    {
+        self.write(table, check);
+        self.elimination.add(odd);
+    }
+
+    /// Adds these checks, each odd if it is marked so.
+    pub fn add_all(&mut self, table: &Table, checks: &[u16], odd: &[bool])
+        ensures { (k among : List Bool) → Stated self.old (meaning_of table.now) k among odd.now → Stated self.new (meaning_of table.now) k (marked checks.now among) odd.now }
+    {
+        for check in checks {
+            self.add(table, *check, is_marked(odd, *check));
+        }
+    }
+
+    /// Writes the coefficients of a check at the unknowns.
+    pub(crate) fn write(&mut self, table: &Table, check: u16)
+        ensures written { (k : List Bool) (rows : List (Equation Bool)) → elements k ≡ unknowns_of self.old → Holds bits self.old.elimination (size k) rows (replicate (size k) false) → Holds bits self.new.elimination (size k) rows (compress bits k (row (meaning_of table.now).checks check)) }
+        ensures unknowns { unknowns_of self.new ≡ unknowns_of self.old }
+    {
+        for qubit in table.row(Row::Check(check)) {
+            if let Some(place) = place_of(self.unknowns(), *qubit) {
+                // no place is refused, since it is that of an unknown
+                let _ = self.elimination.put(place, true);
+            }
+        }
+    }
+}
+
+/// The place of a qubit among rising unknowns.
+fn place_of(unknowns: &[u16], qubit: u16) -> Option<u16>
+    ensures { (k : List Bool) → elements k ≡ unknowns.now → size k ≤ 256 → MatchOption result (listed qubit unknowns.now ≡ false) (λ t. (t < length unknowns.now) × (slice_index unknowns.now t ≡ qubit)) }
+{
+    let place = unknowns.binary_search(&qubit).ok()?;
+    u16::try_from(place).ok()
+}
+
+/// Whether a place is marked. One past the end is not.
+fn is_marked(marks: &[bool], place: u16) -> bool
+    ensures { result ≡ has marks.now place }
+{
+    marks.get(usize::from(place)) == Some(&true)
+}

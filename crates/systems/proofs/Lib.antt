@@ -4,4 +4,5 @@ pub mod Answers
 pub mod Begun
 pub mod Sorting
 pub mod Searching
+pub mod Held
 pub mod Reading

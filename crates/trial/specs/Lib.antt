@@ -5,3 +5,4 @@ pub mod Opening
 pub mod Closing
 pub mod Viewed
 pub mod Boards
+pub mod Solving

@@ -1,9 +1,12 @@
 //! A trial.
+ghost use Rattle.std.specs.Prelude.{◌≤◌, vec_capacity};
+ghost use Rattle.meaning.specs.Meaning.{qubits};
 ghost use Rattle.table.specs.OfTable.{meaning_of};
 ghost use Rattle.trial.specs.Standing.{Sized, state_of};
 
 use crate::trial::board::Board;
 use std::marker::Model;
+use systems::System;
 
 mod board;
 pub mod closing;
@@ -12,6 +15,8 @@ mod finishing;
 pub mod opening;
 mod peeling;
 mod pruning;
+mod solving;
+mod sweeping;
 pub mod viewing;
 
 /// A trial on the code of a table. All its memory is taken when it is opened; no later call allocates.
@@ -25,7 +30,11 @@ pub struct Trial<'t> {
     peeled: u16,
     pruned: u16,
     chosen: u16,
+    system: System,
+    /// Where qubits are listed that a system is to be over.
+    listed: Vec<u16>,
     ghost sized: { Sized (meaning_of board.erasures.table.now) (state_of board.erasures.status.items board.flipped.items closed.items board.odd.items void number peeled pruned chosen) },
+    ghost room: { qubits (meaning_of board.erasures.table.now) ≤ vec_capacity listed },
 }
 
 impl<'t> Model for Trial<'t> {

@@ -72,6 +72,10 @@ def prune(names, step):
     return ["prune", names.of(step, "trial"), names.of(step, "slip"), step["qubit"], len(generators)] + generators
 
 
+def sweep(names, step):
+    return ["sweep", names.of(step, "trial"), names.of(step, "slip")]
+
+
 def copy_out(names, step):
     return ["copy_out", names.of(step, "trial"), step["buffer"]["len"], step["buffer"]["fill"]]
 
@@ -89,6 +93,7 @@ TRIAL_CALLS = {
     "open": opening,
     "peel": peel,
     "prune": prune,
+    "sweep": sweep,
     "copy_out": copy_out,
     "close": close,
     "churn": churn,

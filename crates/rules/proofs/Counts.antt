@@ -53,7 +53,7 @@ log_below (suc t) n (suc k) h = go (leb n 1) (log_below t (n / 2) k (omega (arit
     go true ih = omega arith
     go false ih = omega arith
 
-slack_below : (C : List (List Bool)) (K A s : List Bool) → slack (solutions C K A s) ≤ size K
+pub slack_below : (C : List (List Bool)) (K A s : List Bool) → slack (solutions C K A s) ≤ size K
 slack_below C K A s = log_below (length (solutions C K A s)) (length (solutions C K A s)) (size K) (omega (arith, length_keep (explains (rows C A s)) (subsets K), length_subsets K))
 
 module _ (M : Meaning) (sound : Sound M) (R : Report) (for : For M R) where

@@ -4,4 +4,5 @@ pub mod Rows
 pub mod Answers
 pub mod Begun
 pub mod Searching
+pub mod Held
 pub mod Reading

@@ -8,6 +8,7 @@ use elimination::Elimination;
 
 mod asking;
 mod stating;
+mod touching;
 
 /// The most unknowns.
 pub(crate) const MOST: usize = 256;

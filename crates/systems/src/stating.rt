@@ -85,7 +85,7 @@ impl System {
 }
 
 /// The place of a qubit among rising unknowns.
-fn place_of(unknowns: &[u16], qubit: u16) -> Option<u16>
+pub(crate) fn place_of(unknowns: &[u16], qubit: u16) -> Option<u16>
     ensures { (k : List Bool) → elements k ≡ unknowns.now → size k ≤ 256 → MatchOption result (listed qubit unknowns.now ≡ false) (λ t. (t < length unknowns.now) × (slice_index unknowns.now t ≡ qubit)) }
 {
     let place = unknowns.binary_search(&qubit).ok()?;
@@ -93,7 +93,7 @@ fn place_of(unknowns: &[u16], qubit: u16) -> Option<u16>
 }
 
 /// Whether a place is marked. One past the end is not.
-fn is_marked(marks: &[bool], place: u16) -> bool
+pub(crate) fn is_marked(marks: &[bool], place: u16) -> bool
     ensures { result ≡ has marks.now place }
 {
     marks.get(usize::from(place)) == Some(&true)

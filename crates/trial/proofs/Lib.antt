@@ -4,3 +4,4 @@ pub mod Peels
 pub mod Prunes
 pub mod Closes
 pub mod Opens
+pub mod Sweeps

@@ -43,7 +43,7 @@ module _ (t : Standing) (slip k : ℕ) (fine : None ≡ fault (peel_bars (code t
   named q = (table_tells t.table).names (Check k) (not-false (ltb k (length (code t).checks)) clear.0) q
 
   -- what is found at the fields is what the rule finds
-  pub at_fields : (i : Inside) → standing_of i ≡ t → (l : List Status) (r : List ℕ) → l ≡ vec_items i.erasures.status → r ≡ told_of i.erasures.table.now (Check k)
+  pub at_fields : (i : Inside) → standing_of i ≡ t → (l : List Status) (r : List ℕ) → l ≡ vec_items i.board.erasures.status → r ≡ told_of i.board.erasures.table.now (Check k)
       → first_in (erased_of l) r ≡ first_in t.state.erased told
   at_fields i is l r el er = ap₂ (λ x y. first_in (erased_of x) y) el er ∙ ap (λ (x : Standing). first_in x.state.erased (told_of x.table (Check k))) is
 

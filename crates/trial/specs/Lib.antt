@@ -4,3 +4,5 @@ pub mod Seen
 pub mod Opening
 pub mod Closing
 pub mod Viewed
+pub mod Boards
+pub mod Solving

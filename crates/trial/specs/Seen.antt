@@ -6,7 +6,7 @@ use Rattle.trial.specs.declared.trial.Trial.TheInside.{Inside}
 abbrev pub standing_of : Inside → Standing
 standing_of t =
     record {
-      table = t.erasures.table.now;
-      state = state_of (vec_items t.erasures.status) (vec_items t.flipped) (vec_items t.closed) (vec_items t.odd) t.void t.number t.peeled t.pruned t.chosen;
+      table = t.board.erasures.table.now;
+      state = state_of (vec_items t.board.erasures.status) (vec_items t.board.flipped) (vec_items t.closed) (vec_items t.board.odd) t.void t.number t.peeled t.pruned t.chosen;
       sized = t.sized;
     }

@@ -1,32 +1,40 @@
 //! A trial.
+ghost use Rattle.std.specs.Prelude.{◌≤◌, vec_capacity};
+ghost use Rattle.meaning.specs.Meaning.{qubits};
 ghost use Rattle.table.specs.OfTable.{meaning_of};
 ghost use Rattle.trial.specs.Standing.{Sized, state_of};
 
-use crate::trial::erasing::Erasures;
+use crate::trial::board::Board;
 use std::marker::Model;
+use systems::System;
 
+mod board;
 pub mod closing;
 mod erasing;
 mod finishing;
 pub mod opening;
 mod peeling;
 mod pruning;
+mod solving;
+mod sweeping;
 pub mod viewing;
 
 /// A trial on the code of a table. All its memory is taken when it is opened; no later call allocates.
 // Kept: one list for each, since `View`'s public fields lend each as a slice, and the sets of the rules are read off them one by one.
 #[derive(Drop)]
 pub struct Trial<'t> {
-    erasures: Erasures<'t>,
-    flipped: Vec<bool>,
+    board: Board<'t>,
     closed: Vec<bool>,
-    odd: Vec<bool>,
     void: bool,
     number: u32,
     peeled: u16,
     pruned: u16,
     chosen: u16,
-    ghost sized: { Sized (meaning_of erasures.table.now) (state_of erasures.status.items flipped.items closed.items odd.items void number peeled pruned chosen) },
+    system: System,
+    /// Where qubits are listed that a system is to be over.
+    listed: Vec<u16>,
+    ghost sized: { Sized (meaning_of board.erasures.table.now) (state_of board.erasures.status.items board.flipped.items closed.items board.odd.items void number peeled pruned chosen) },
+    ghost room: { qubits (meaning_of board.erasures.table.now) ≤ vec_capacity listed },
 }
 
 impl<'t> Model for Trial<'t> {

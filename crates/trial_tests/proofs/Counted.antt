@@ -1,5 +1,5 @@
 -- What a close and an opening do to the count of slips that are out, and that the calls on a trial keep its number.
-use Rattle.std.proofs.Common.{◌≡◌, ℕ, ◌+◌, ◌-◌, ◌<◌, Bool, true, false, cond, not, eqb, List, Some, Ok, Err, Option, Result, get_or, set, sym, refl, ap, ◌∙◌, subst, arith, eqb-true, eq-eqb}
+use Rattle.std.proofs.Common.{◌≡◌, ℕ, ◌+◌, ◌-◌, ◌<◌, Bool, true, false, cond, not, eqb, List, [], ◌∷◌, Some, Ok, Err, Option, Result, get_or, set, sym, refl, ap, ◌∙◌, subst, arith, eqb-true, eq-eqb}
 use Rattle.std.proofs.Math.Seq.{map-set_same}
 use Rattle.std.proofs.lemmas.Bool.{eqb-false}
 use Rattle.terms.specs.declared.refusal.Refusal.{Refusal}
@@ -10,7 +10,9 @@ use Rattle.rules.specs.declared.answers.Outcome.TheVariants.{Solved, Nothing, Un
 use Rattle.rules.specs.declared.answers.Verdict.{Verdict}
 use Rattle.rules.specs.Reports.{report}
 use Rattle.rules.specs.States.{State, opening}
-use Rattle.rules.specs.Calls.{peel_bars, peel, prune_bars, prune}
+use Rattle.rules.specs.Moves.{sweep_from}
+use Rattle.rules.specs.Refusing.{wrong_slip}
+use Rattle.rules.specs.Calls.{peel_bars, peel, prune_bars, prune, sweep_bars, sweep_found, sweep}
 use Rattle.rules.specs.Tallies as rules
 use Rattle.rules.specs.Companions.{Kept}
 use Rattle.rules.proofs.Bars.{guarded, accepted, passed, not_ok}
@@ -109,6 +111,15 @@ peel_number M t u slip c r e =
 pub prune_number : (M : Meaning) (t u : Trial) (slip q : ℕ) (l : List ℕ) (r : Result (Unit {0}) Refusal) → ◌≡◌ {A = Result (Unit {0}) Refusal × State} (r, u.state) (prune M t.state slip q l) → u.state.number ≡ t.state.number
 prune_number M t u slip q l r e =
     ap (λ (x : Result (Unit {0}) Refusal × State). x.1.number) e ∙ guarded (prune_bars M t.state slip q l) t.state _ (λ (x : State). x.number ≡ t.state.number) refl (λ _. refl)
+
+found_number : (M : Meaning) (s : State) (slip : ℕ) (found : List (List Bool)) → (sweep_found M s slip found).1.number ≡ s.number
+found_number M s slip [] = refl
+found_number M s slip (z ∷ found) = guarded (wrong_slip s slip ∷ []) s _ (λ (x : State). x.number ≡ s.number) refl (λ _. refl)
+
+pub sweep_number : (M : Meaning) (t u : Trial) (slip : ℕ) (r : Result (Unit {0}) Refusal) → ◌≡◌ {A = Result (Unit {0}) Refusal × State} (r, u.state) (sweep M t.state slip) → u.state.number ≡ t.state.number
+sweep_number M t u slip r e =
+    ap (λ (x : Result (Unit {0}) Refusal × State). x.1.number) e
+    ∙ guarded (sweep_bars t.state) t.state _ (λ (x : State). x.number ≡ t.state.number) refl (λ _. found_number M t.state slip (sweep_from M t.state))
 
 -- and another trial of the same number leaves each slip the number at its place
 pub own_after : (slips : List (Option Slip)) (l : List Trial) (k : ℕ) (u d : Trial) → u.state.number ≡ (get_or l k d).state.number → Own slips (trial_numbers l) → Own slips (trial_numbers (set l k u))

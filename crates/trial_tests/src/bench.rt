@@ -38,6 +38,7 @@ impl<'t> Bench<'t> {
             "open" => self.open(heap, &mut numbers)?,
             "peel" => self.trials.peel(&mut numbers),
             "prune" => self.trials.prune(heap, &mut numbers)?,
+            "sweep" => self.trials.sweep(&mut numbers),
             "copy_out" => self.copy_out(heap, &mut numbers)?,
             "close" => self.close(&mut numbers),
             "churn" => self.churn(heap, &mut numbers),

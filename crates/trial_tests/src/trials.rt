@@ -67,6 +67,21 @@ impl<'t> Trials<'t> {
         Ok(Told::of_trial(answer, place))
     }
 
+    /// Sweeps the trial of one place and shows it the slip of another.
+    pub(crate) fn sweep(&mut self, numbers: &mut Numbers) -> Told
+        ensures { self.new.slips.items ≡ self.old.slips.items }
+    {
+        let place = numbers.place();
+        let Some(Some(slip)) = self.slips.get(numbers.place()) else {
+            return Told::unknown();
+        };
+        let Some(trial) = self.trials.get_mut(place) else {
+            return Told::unknown();
+        };
+        let answer = Answer::from(trial.sweep(slip));
+        Told::of_trial(answer, place)
+    }
+
     /// Makes room for one more trial and its slip. It comes before the opening, for a slip cannot be let go for want of memory.
     pub(crate) fn make_room(&mut self) -> Result<(), AllocError>
         ensures slips { OnOk result (vec_len self.new.slips < vec_capacity self.new.slips) }

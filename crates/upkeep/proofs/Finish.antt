@@ -11,12 +11,11 @@ use Rattle.rules.specs.States.{State, finish, count}
 use Rattle.upkeep.specs.Changed.{turned}
 use Rattle.upkeep.proofs.One.{less_only, plus_only, plus_nothing, syndrome_none, syndrome_one}
 
--- the tables are as long as the code has qubits and checks
+-- the marks of a state are as long as the code has qubits and checks
 pub record Long (M : Meaning) (s : State) : Type 0 where
   pub erased : length s.erased ≡ qubits M
   pub shelved : length s.shelved ≡ qubits M
   pub flipped : length s.flipped ≡ qubits M
-  pub closed : length s.closed ≡ length M.checks
   pub odds : length s.odds ≡ length M.checks
 
 -- the qubit q alone is done, and flipped or not; the list l names each check that holds it, once

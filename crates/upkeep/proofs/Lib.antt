@@ -8,3 +8,4 @@ pub mod Rows
 pub mod Finish
 pub mod Peeled
 pub mod Opened
+pub mod Every

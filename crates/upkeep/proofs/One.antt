@@ -14,7 +14,7 @@ use Rattle.upkeep.specs.Changed.{turned}
 use Rattle.upkeep.proofs.Changed.{length_changed, changed_at}
 
 -- whether k is q: in the set of q alone, and after a write at q
-at_only : (n q k : ℕ) → q < n → (k ≡ q) ⊎ (k ≡ q → ⊥) → (a : List Bool) (v : Bool) → length a ≡ n
+pub at_only : (n q k : ℕ) → q < n → (k ≡ q) ⊎ (k ≡ q → ⊥) → (a : List Bool) (v : Bool) → length a ≡ n
     → ((has (only n q) k ≡ true) × (has (set a q v) k ≡ v) × (k ≡ q)) ⊎ ((has (only n q) k ≡ false) × (has (set a q v) k ≡ has a k))
 at_only n q k low (inl e) a v long =
     let low' : q < length a = omega arith in

@@ -51,10 +51,10 @@ impl Trial<'_> {
         if self.void {
             return Outcome::Nothing;
         }
-        if some_left(self.erasures.status.as_slice()) {
+        if some_left(self.board.erasures.status.as_slice()) {
             return Outcome::Unfinished;
         }
-        if any(self.odd.as_slice()) {
+        if any(self.board.odd.as_slice()) {
             return Outcome::Nothing;
         }
         Outcome::Solved
@@ -64,6 +64,6 @@ impl Trial<'_> {
     pub fn copy_out(&self, buffer: &mut [u8]) -> Result<(), Refusal>
         ensures { (result, buffer.new) ≡ copy_out (meaning_of self.now.table) self.now.state buffer.old }
     {
-        write_marks(self.flipped.as_slice(), buffer)
+        write_marks(self.board.flipped.as_slice(), buffer)
     }
 }

@@ -1,6 +1,6 @@
 //! Which qubits are erased, and how many of them each check holds.
-ghost use Rattle.std.specs.Prelude.{◌≡◌, ◌<◌, ◌==◌, false, length, replicate, IfOk, slice_set};
-ghost use Rattle.sets.specs.Sets.{row, meet, size};
+ghost use Rattle.std.specs.Prelude.{◌≡◌, ◌<◌, ◌≤◌, ◌==◌, false, length, replicate, IfOk, slice_set, vec_capacity};
+ghost use Rattle.sets.specs.Sets.{row, meet, size, elements};
 ghost use Rattle.meaning.specs.Meaning.{qubits};
 ghost use Rattle.rules.specs.declared.answers.Status.TheVariants.{Erased, Done};
 ghost use Rattle.rules.specs.Calls.{some_outside};
@@ -75,6 +75,20 @@ impl Erasures<'_> {
             self.table.row(Row::Generator(*g)),
             self.status.as_slice(),
         ))
+    }
+
+    /// Lists the erased qubits, rising, in a list that has room for all qubits.
+    pub(crate) fn list(&self, list: &mut Vec<u16>)
+        requires { length self.now.status.items ≤ vec_capacity list.old }
+        ensures lists { list.new.items ≡ elements (erased_of self.now.status.items) }
+        ensures capacity { vec_capacity list.new ≡ vec_capacity list.old }
+    {
+        list.clear();
+        for (q, status) in self.status.iter().enumerate() {
+            if *status == Status::Erased {
+                list.push_reserved(q as u16);
+            }
+        }
     }
 
     /// A qubit is done, and counts in its checks no more.

@@ -1,5 +1,6 @@
 //! Opening a trial.
-ghost use Rattle.std.specs.Prelude.{◌≡◌, false, length, replicate, IfOk};
+ghost use Rattle.std.specs.Prelude.{◌≡◌, false, length, replicate, IfOk, None};
+ghost use Rattle.terms.specs.Answering.{AnswersIfMemory};
 ghost use Rattle.meaning.specs.Meaning.{qubits};
 ghost use Rattle.rules.specs.Reports.{some_past};
 ghost use Rattle.rules.specs.Tallies.{open_trial};
@@ -8,12 +9,14 @@ ghost use Rattle.upkeep.specs.Changed.{marked};
 ghost use Rattle.trial.specs.Opening.{Opens, OpenedOn, BegunOn};
 
 use super::Trial;
+use super::board::Board;
 use super::erasing::Erasures;
 use crate::report::Report;
 use crate::slip::Slip;
 use crate::tally::Tally;
 use marking::changing::mark;
 use std::alloc::{AllocError, Global};
+use systems::System;
 use table::Table;
 use terms::refusal::Refusal;
 
@@ -49,25 +52,32 @@ fn begin<'t>(
     table: &'t Table,
     report: Report<'_>,
     number: u32,
-) -> Result<Trial<'t>, AllocError>
+) -> Result<Trial<'t>, Refusal>
     requires lost { some_past (qubits (meaning_of table.now)) report.lost.now ≡ false }
     requires odd { some_past (length (meaning_of table.now).checks) report.odd.now ≡ false }
-    ensures { IfOk result (BegunOn table.now report.entry.lost.now report.entry.odd.now number) }
+    ensures { AnswersIfMemory result None (BegunOn table.now report.entry.lost.now report.entry.odd.now number) }
 {
     let erasures = Erasures::of(heap, table, report.lost)?;
     let flipped = vec![in heap; false; table.qubits() as usize]?;
     let closed = vec![in heap; false; table.checks() as usize]?;
     let odd = marked_marks(heap, table.checks() as usize, report.odd)?;
-    Ok(Trial {
+    let system = System::new(heap)?;
+    let listed = Vec::with_capacity(heap, table.qubits() as usize)?;
+    let board = Board {
         erasures,
         flipped,
-        closed,
         odd,
+    };
+    Ok(Trial {
+        board,
+        closed,
         void: false,
         number,
         peeled: 0,
         pruned: 0,
         chosen: 0,
+        system,
+        listed,
     })
 }
 

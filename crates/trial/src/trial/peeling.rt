@@ -19,11 +19,11 @@ impl Trial<'_> {
         ensures table { self.new.table ≡ self.old.table }
     {
         self.peel_fault(slip, check)?;
-        let row = self.erasures.table.row(Row::Check(check));
-        let Some(qubit) = erased_among(row, self.erasures.status.as_slice()) else {
+        let row = self.board.erasures.table.row(Row::Check(check));
+        let Some(qubit) = erased_among(row, self.board.erasures.status.as_slice()) else {
             return unreachable();
         };
-        let flip = self.odd[check as usize];
+        let flip = self.board.odd[check as usize];
         self.finish(qubit, flip);
         self.peeled += 1;
         Ok(qubit)
@@ -33,7 +33,7 @@ impl Trial<'_> {
     fn peel_fault(&self, slip: &Slip, check: u16) -> Result<(), Refusal>
         ensures { result ≡ checked (fault (peel_bars (meaning_of self.now.table) self.now.state slip.now.number check)) }
     {
-        if check >= self.erasures.table.checks() {
+        if check >= self.board.erasures.table.checks() {
             return Err(Refusal::CheckTooLarge);
         }
         if self.void {
@@ -52,7 +52,7 @@ impl Trial<'_> {
     pub(crate) fn is_dangling(&self, check: u16) -> bool
         ensures { result ≡ dangling (meaning_of self.now.table) self.now.state check }
     {
-        self.closed.get(check as usize) != Some(&true) && self.erasures.holds_one(check)
+        self.closed.get(check as usize) != Some(&true) && self.board.erasures.holds_one(check)
     }
 
     /// Whether the slip is the trial's, by its number.

@@ -29,10 +29,10 @@ impl Trial<'_> {
     fn prune_fault(&self, slip: &Slip, qubit: u16, generators: &[u16]) -> Result<(), Refusal>
         ensures { result ≡ checked (fault (prune_bars (meaning_of self.now.table) self.now.state slip.now.number qubit generators.now)) }
     {
-        if qubit >= self.erasures.table.qubits() {
+        if qubit >= self.board.erasures.table.qubits() {
             return Err(Refusal::QubitTooLarge);
         }
-        if some_past(self.erasures.table.generators(), generators) {
+        if some_past(self.board.erasures.table.generators(), generators) {
             return Err(Refusal::GeneratorTooLarge);
         }
         if generators.len() == 0 || generators.len() > 4 {
@@ -41,10 +41,10 @@ impl Trial<'_> {
         if self.void {
             return Err(Refusal::NoSolution);
         }
-        if self.erasures.some_outside(generators) {
+        if self.board.erasures.some_outside(generators) {
             return Err(Refusal::GeneratorNotErased);
         }
-        if !is_named_oddly(self.erasures.table, generators, qubit) {
+        if !is_named_oddly(self.board.erasures.table, generators, qubit) {
             return Err(Refusal::EvenlyNamed);
         }
         if !self.is_shown(slip) {

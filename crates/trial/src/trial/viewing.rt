@@ -26,10 +26,10 @@ impl Trial<'_> {
         ensures { viewed result ≡ self.now.state }
     {
         View {
-            status: self.erasures.status.as_slice(),
-            flipped: self.flipped.as_slice(),
+            status: self.board.erasures.status.as_slice(),
+            flipped: self.board.flipped.as_slice(),
             closed: self.closed.as_slice(),
-            odd: self.odd.as_slice(),
+            odd: self.board.odd.as_slice(),
             void: self.void,
             number: self.number,
             peeled: self.peeled,

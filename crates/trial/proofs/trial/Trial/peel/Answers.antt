@@ -41,7 +41,7 @@ finish-requires c =
     (c.in-Some.ensures ∙ at_fields t slip k fine c.self.inside c.self.view_is _ _ c.as_slice.ensures.value c.row-row.ensures)
 
 pub overflow_add-self : goal.overflow_add-self
-overflow_add-self c = omega (arith, c.self-2.inside.sized.few, (table_sound c.self-2.inside.erasures.table.now).few_qubits)
+overflow_add-self c = omega (arith, c.self-2.inside.sized.few, (table_sound c.self-2.inside.board.erasures.table.now).few_qubits)
 
 pub invariant_of-self-inside : goal.invariant_of-self-inside
 invariant_of-self-inside c =
@@ -54,7 +54,7 @@ invariant_of-self-inside c =
     let more = room t c.finish.new.self q _ (is_qubit t slip k fine q found) (erased_is t slip k fine q found) c.finish.ensures.does c.finish.ensures.table in
     let left = subst (λ (s : Standing). total s.state + 1 ≤ qubits (code s)) (sym c.self-2.view_is) more in
     let i = c.self-2.inside.sized in
-    (record { erased = i.erased; shelved = i.shelved; flipped = i.flipped; closed = i.closed; odds = i.odds; few = omega (arith, left) }, tt)
+    (record { erased = i.erased; shelved = i.shelved; flipped = i.flipped; closed = i.closed; odds = i.odds; few = omega (arith, left) }, (c.self-2.inside.room, tt))
 
 pub returns-clause-does : goal.returns-clause-does
 returns-clause-does c =

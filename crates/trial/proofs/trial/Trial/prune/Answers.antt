@@ -22,7 +22,7 @@ returns-in_err-prune_fault-clause-does c =
     ap (λ (r : Result (Unit {0}) Refusal). (r, t.state)) p.1 ∙ sym (fault_some t.state _ bars p.0 (stops p.0 (fault bars) (ap Err p.2 ∙ c.in_err-prune_fault.ensures)))
 
 pub overflow_add-self : goal.overflow_add-self
-overflow_add-self c = omega (arith, c.self.inside.sized.few, (table_sound c.self.inside.erasures.table.now).few_qubits)
+overflow_add-self c = omega (arith, c.self.inside.sized.few, (table_sound c.self.inside.board.erasures.table.now).few_qubits)
 
 pub invariant_of-self-inside : goal.invariant_of-self-inside
 invariant_of-self-inside c =
@@ -34,7 +34,7 @@ invariant_of-self-inside c =
     let more = room t c.finish.new.self q _ (is_qubit t slip q l fine) (erased_is t slip q l fine) c.finish.ensures.does c.finish.ensures.table in
     let left = subst (λ (s : Standing). total s.state + 1 ≤ qubits (code s)) (sym c.self.view_is) more in
     let i = c.self.inside.sized in
-    (record { erased = i.erased; shelved = i.shelved; flipped = i.flipped; closed = i.closed; odds = i.odds; few = omega (arith, left) }, tt)
+    (record { erased = i.erased; shelved = i.shelved; flipped = i.flipped; closed = i.closed; odds = i.odds; few = omega (arith, left) }, (c.self.inside.room, tt))
 
 pub returns-clause-does : goal.returns-clause-does
 returns-clause-does c =

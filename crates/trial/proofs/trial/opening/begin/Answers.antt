@@ -1,4 +1,7 @@
-use Rattle.std.proofs.Common.{false, replicate, ap, ◌∙◌}
+use Rattle.std.proofs.Common.{false, replicate, ap, ◌∙◌, arith}
+use Rattle.meaning.specs.Meaning.{qubits}
+use Rattle.table.specs.OfTable.{meaning_of}
+use Rattle.table.specs.declared.Table.{Table}
 use Rattle.upkeep.specs.Changed.{marked}
 use Rattle.trial.proofs.Opens.{begins, is_sized}
 use Rattle.trial.proofs.trial.opening.begin.Goals as goal
@@ -9,7 +12,16 @@ invariant_of-result c =
     let closed = c.in_ok-closed.ensures.items_if_clones_equal (λ y e. e) ∙ ap (λ k. replicate k false) c.checks.ensures in
     let odd = c.in_ok-odd.ensures ∙ ap (λ k. marked c.args.report.odd.now (replicate k false)) c.checks-2.ensures in
     let is = c.in_ok-erasures.ensures in
-    (is_sized c.args.table.now c.args.report.lost.now c.args.report.odd.now c.args.number c.in_ok-erasures.erasures _ _ _ is.0 is.1 flipped closed odd, tt)
+    (is_sized c.args.table.now c.args.report.lost.now c.args.report.odd.now c.args.number c.in_ok-erasures.erasures _ _ _ is.0 is.1 flipped closed odd, (omega (arith, c.in_ok-listed.ensures, c.qubits-2.ensures, ap (λ (x : Table). qubits (meaning_of x)) is.0), tt))
+
+pub invariant_of-board : goal.invariant_of-board
+invariant_of-board c =
+    let flipped = c.in_ok-flipped.ensures.items_if_clones_equal (λ y e. e) ∙ ap (λ k. replicate k false) c.qubits.ensures in
+    let closed = c.in_ok-closed.ensures.items_if_clones_equal (λ y e. e) ∙ ap (λ k. replicate k false) c.checks.ensures in
+    let odd = c.in_ok-odd.ensures ∙ ap (λ k. marked c.args.report.odd.now (replicate k false)) c.checks-2.ensures in
+    let is = c.in_ok-erasures.ensures in
+    let sized = is_sized c.args.table.now c.args.report.lost.now c.args.report.odd.now c.args.number c.in_ok-erasures.erasures _ _ _ is.0 is.1 flipped closed odd in
+    record { flips = sized.flipped; odds = sized.odds }
 
 pub returns : goal.returns
 returns c =

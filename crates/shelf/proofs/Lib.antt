@@ -1,0 +1,3 @@
+pub mod Stacks
+pub mod Entries
+pub mod Room

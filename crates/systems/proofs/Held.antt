@@ -11,7 +11,7 @@ use Rattle.sets.proofs.Sets.{meets_some, has_meets}
 use Rattle.upkeep.proofs.Holders.{among_elements}
 use Rattle.systems.specs.declared.System.{System}
 use Rattle.systems.specs.Stated.{unknowns_of}
-use Rattle.systems.proofs.Sorting.{in_at}
+use Rattle.systems.proofs.Searching.{in_at}
 
 -- the set as far as below i
 abbrev pub until : ℕ → List Bool → List Bool

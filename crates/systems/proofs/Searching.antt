@@ -22,7 +22,7 @@ use Rattle.elimination.specs.Calls.{outside}
 use Rattle.systems.proofs.Rising.{rising}
 use Rattle.systems.proofs.Rows.{no_row}
 
-in_at : (x : ℕ) (l : List ℕ) → In x l → (i : ℕ) × (i < length l) × (get_or l i 0 ≡ x)
+pub in_at : (x : ℕ) (l : List ℕ) → In x l → (i : ℕ) × (i < length l) × (get_or l i 0 ≡ x)
 in_at x [] n = absurd n
 in_at x (y ∷ l) (inl e) = (0, omega arith, sym e)
 in_at x (y ∷ l) (inr m) = let (i, h, e) = in_at x l m in (suc i, omega arith, e)

@@ -1,6 +1,6 @@
-use Rattle.std.proofs.Common.{◌≡◌, ℕ, ◌+◌, ◌<◌, Bool, true, false, cond, not, ◌&&◌, List, length, set, sym, ap, ap₂, ◌∙◌, subst, arith}
+use Rattle.std.proofs.Common.{◌≡◌, ℕ, ◌<◌, Bool, true, cond, not, ◌&&◌, List, length, set, sym, ap, ◌∙◌, subst, arith}
 use Rattle.std.proofs.lemmas.List.{length-map}
-use Rattle.sets.specs.Sets.{has, row, less, holders, meets, empty}
+use Rattle.sets.specs.Sets.{has, less, holders, meets}
 use Rattle.sets.proofs.Sets.{length_over, has_less, has_holders}
 use Rattle.table.specs.OfTable.{meaning_of}
 use Rattle.systems.specs.declared.System.{System}

@@ -1,8 +1,7 @@
-use Rattle.std.proofs.Common.{◌≡◌, ℕ, ◌+◌, ◌<◌, ◌≤◌, Bool, true, false, is_some, List, length, get_or, sym, ap, ◌∙◌, subst, inl, inr, arith}
+use Rattle.std.proofs.Common.{◌≡◌, ◌<◌, is_some, get_or, sym, ap, ◌∙◌, inl, inr, arith}
 use Rattle.std.proofs.lemmas.Bool.{cases_lt}
-use Rattle.sets.specs.Sets.{has, row, elements, meets, among}
+use Rattle.sets.specs.Sets.{has, row, among}
 use Rattle.table.specs.OfTable.{meaning_of}
-use Rattle.systems.specs.Stated.{Stated, unknowns_of}
 use Rattle.systems.proofs.Held.{some_named, none_named, is_unknown, few_unknowns}
 use Rattle.systems.proofs.Searching.{told_names}
 use Rattle.systems.proofs.System.holds.Goals as goal

@@ -1,5 +1,5 @@
 //! What a system answers.
-ghost use Rattle.std.specs.Prelude.{◌≡◌, ◌≤◌, ◌<◌, Bool, true, false, List, length, Err, IfSome, IfNone};
+ghost use Rattle.std.specs.Prelude.{◌≡◌, ◌≤◌, ◌<◌, Bool, true, false, List, length, Err, IfOk, IfSome, IfNone};
 ghost use Rattle.terms.specs.Answering.{Answers};
 ghost use Rattle.terms.specs.declared.refusal.Refusal.TheVariants.{NotRising};
 ghost use Rattle.sets.specs.Sets.{has, size, empty, elements};
@@ -35,6 +35,7 @@ impl System {
         checks: &[u16],
         odd: &[bool],
     ) -> Result<Option<u16>, Refusal>
+        ensures few { IfOk result (λ slack. IfSome slack (λ s. s ≤ 256)) }
         ensures solved { (k : List Bool) → elements k ≡ unknowns.now → length odd.now ≡ length (meaning_of table.now).checks → Answers result (too_many (size k)) (λ slack. let M = meaning_of table.now in let among = marked checks.now (empty (length M.checks)) in Stated self.new M k among odd.now × Found (solutions M.checks k among odd.now) slack (spread k (least_of self.new))) }
         ensures falling { rises unknowns.now ≡ false → result ≡ Err NotRising }
         ensures kept { KeptIfRefused result self.old self.new }

@@ -74,10 +74,9 @@ fn spread(scene: &Scene, check: u16, ground: &mut Ground, marks: &mut Marks)
     ensures lender { marks.new.scratch.ghost_name ≡ marks.old.scratch.ghost_name }
 {
     for q in scene.table.row(Row::Check(check)) {
-        if !scene.is_beside(*q) || marks.is_marked(*q as usize) {
-            continue;
+        if scene.is_beside(*q) && !marks.is_marked(*q as usize) {
+            marks.mark(*q as usize);
+            ground.pending.push(*q);
         }
-        marks.mark(*q as usize);
-        ground.pending.push(*q);
     }
 }

@@ -37,10 +37,9 @@ fn visit(scene: &Scene, qubit: u16, ground: &mut Ground, marks: &mut Marks)
     ensures lender { marks.new.scratch.ghost_name ≡ marks.old.scratch.ghost_name }
 {
     for c in scene.table.checks_at(qubit) {
-        if !scene.is_open(*c) || ground.met[*c as usize] {
-            continue;
+        if scene.is_open(*c) && !ground.met[*c as usize] {
+            meet(scene, *c, ground, marks);
         }
-        meet(scene, *c, ground, marks);
     }
 }
 

@@ -42,35 +42,35 @@ loop-q-preserved c =
     let t = still_touched M (state_of v) _ _ _ n m l.ground i.onward c.args.check c.requires.touched in
     elim c.if-is_beside.branch [
       | then-is_beside+then-not-is_marked b ↦
-        let free = sym b.is_marked.ensures ∙ b.if-not-is_marked.true in
-        let there = sym c.is_beside.ensures ∙ b.if-is_beside.true in
-        let r = reached_more v n m l.ground w c.args.check t j held there in
-        let p = b.push.new.self in
-        let n' = b.mark.new.self.qubits in
-        let m' = b.mark.new.self.scratch.now in
-        let did = b.mark.ensures in
-        let put = b.push.ensures in
-        let on = took_onward v n m l.ground w j r low free p put.room put.list n' m' did.size did.bytes in
-        rw (b.marks-is, b.ground-is) (record {
-          walk = took v n m l.ground w j r low free p put.room put.list n' m' did.size did.bytes;
-          onward = onward_then _ _ _ n m l.ground n' m' (record l.ground { pending = p }) i.onward on;
-          same = i.same;
-          swept = below_more _ _ (λ k h e. on.kept (get_or row k 0) (i.swept k h e)) (λ e. took_it v n m l.ground w j r low free p put.room put.list n' m' did.size did.bytes);
-          lender = did.lender ∙ i.lender;
-        })
+          let free = sym b.is_marked.ensures ∙ b.if-not-is_marked.true in
+          let there = sym c.is_beside.ensures ∙ b.if-is_beside.true in
+          let r = reached_more v n m l.ground w c.args.check t j held there in
+          let p = b.push.new.self in
+          let n' = b.mark.new.self.qubits in
+          let m' = b.mark.new.self.scratch.now in
+          let did = b.mark.ensures in
+          let put = b.push.ensures in
+          let on = took_onward v n m l.ground w j r low free p put.room put.list n' m' did.size did.bytes in
+          rw (b.marks-is, b.ground-is) (record {
+            walk = took v n m l.ground w j r low free p put.room put.list n' m' did.size did.bytes;
+            onward = onward_then _ _ _ n m l.ground n' m' (record l.ground { pending = p }) i.onward on;
+            same = i.same;
+            swept = below_more _ _ (λ k h e. on.kept (get_or row k 0) (i.swept k h e)) (λ e. took_it v n m l.ground w j r low free p put.room put.list n' m' did.size did.bytes);
+            lender = did.lender ∙ i.lender;
+          })
       | else-is_beside b ↦
-        let here : has (beside v) j ≡ true → is_marked n m j ≡ true =
-            λ e. elim b.else-is_beside.branch [
-              | else-is_beside-via-then-is_beside+else-not-is_marked b' ↦ sym b'.is_marked.ensures ∙ b'.if-not-is_marked.false
-              | else-is_beside-via-else-is_beside b' ↦ absurd (clash e (sym c.is_beside.ensures ∙ b'.if-is_beside.false))
-            ] in
-        rw (b.marks-is, b.ground-is) (record {
-          walk = w;
-          onward = i.onward;
-          same = i.same;
-          swept = below_more _ _ i.swept here;
-          lender = i.lender;
-        })
+          let here : has (beside v) j ≡ true → is_marked n m j ≡ true =
+          λ e. elim b.else-is_beside.branch [
+            | else-is_beside-via-then-is_beside+else-not-is_marked b' ↦ sym b'.is_marked.ensures ∙ b'.if-not-is_marked.false
+            | else-is_beside-via-else-is_beside b' ↦ absurd (clash e (sym c.is_beside.ensures ∙ b'.if-is_beside.false))
+          ] in
+          rw (b.marks-is, b.ground-is) (record {
+            walk = w;
+            onward = i.onward;
+            same = i.same;
+            swept = below_more _ _ i.swept here;
+            lender = i.lender;
+          })
     ]
 
 pub returns-clause-swept : goal.returns-clause-swept

@@ -7,3 +7,4 @@ pub mod Walking
 pub mod Sorting
 pub mod Cluster
 pub mod Lent
+pub mod Seen

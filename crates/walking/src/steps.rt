@@ -37,10 +37,9 @@ fn visit(scene: &Scene, qubit: u16, ground: &mut Ground, marks: &mut Marks)
     ensures lender { marks.new.scratch.ghost_name ≡ marks.old.scratch.ghost_name }
 {
     for c in scene.table.checks_at(qubit) {
-        if !scene.is_open(*c) || ground.met[*c as usize] {
-            continue;
+        if scene.is_open(*c) && !ground.met[*c as usize] {
+            meet(scene, *c, ground, marks);
         }
-        meet(scene, *c, ground, marks);
     }
 }
 
@@ -74,10 +73,9 @@ fn spread(scene: &Scene, check: u16, ground: &mut Ground, marks: &mut Marks)
     ensures lender { marks.new.scratch.ghost_name ≡ marks.old.scratch.ghost_name }
 {
     for q in scene.table.row(Row::Check(check)) {
-        if !scene.is_beside(*q) || marks.is_marked(*q as usize) {
-            continue;
+        if scene.is_beside(*q) && !marks.is_marked(*q as usize) {
+            marks.mark(*q as usize);
+            ground.pending.push(*q);
         }
-        marks.mark(*q as usize);
-        ground.pending.push(*q);
     }
 }

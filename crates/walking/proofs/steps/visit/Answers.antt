@@ -6,8 +6,9 @@ use Rattle.sets.proofs.Bits.{clash}
 use Rattle.table.specs.OfTable.{meaning_of}
 use Rattle.walking.proofs.Told.{holding, holder_place}
 use Rattle.walking.proofs.Ends.{check_low}
+use Rattle.walking.proofs.Onward.{onward_then}
 use Rattle.walking.proofs.steps.visit.Goals as goal
-use Rattle.walking.proofs.steps.visit.Goals.{then-not-is_open-via-then-not-is_open, then-not-is_open-via-else-not-is_open+then-index}
+use Rattle.walking.proofs.steps.visit.Goals.{then-is_open+then-not-index, else-is_open, else-is_open-via-then-is_open+else-not-index, else-is_open-via-else-is_open}
 
 pub index-requires : goal.index-requires
 index-requires c =
@@ -17,24 +18,38 @@ index-requires c =
     let held = holding M.checks c.args.qubit c.checks_at-c-items.result.now c.checks_at-c-items.ensures l.c-index (omega arith) in
     omega (arith, check_low M.checks d c.args.qubit held, l.invariant.walk.roomy.met, l.ground.met.ok.0)
 
-pub loop-c-preserved-then-not-is_open : goal.loop-c-preserved-then-not-is_open
-loop-c-preserved-then-not-is_open c =
+pub loop-c-preserved : goal.loop-c-preserved
+loop-c-preserved c =
     let v = c.args.scene.now in
-    let i = c.loop-c.invariant in
-    let d = get_or c.checks_at-c-items.result.now c.loop-c.c-index 0 in
-    let held = holding (meaning_of v.table.now).checks c.args.qubit c.checks_at-c-items.result.now c.checks_at-c-items.ensures c.loop-c.c-index (omega arith) in
-    let low : d < length (vec_items c.loop-c.ground.met) = omega (arith, check_low (meaning_of v.table.now).checks d c.args.qubit held, i.walk.roomy.met) in
-    let here : has v.closed.now d ≡ false → has (vec_items c.loop-c.ground.met) d ≡ true =
-    λ o. elim c.then-not-is_open.branch [
-      | then-not-is_open-via-then-not-is_open w ↦ absurd (clash (ap not o) (sym c.is_open.ensures ∙ w.if-not-is_open.true))
-      | then-not-is_open-via-else-not-is_open+then-index w ↦ sym (sym w.if-index.true ∙ w.index.ensures ∙ get_or_default (vec_items c.loop-c.ground.met) d w.index.result.now false low)
-    ] in
-    record {
-      walk = i.walk;
-      onward = i.onward;
-      visited = below_more _ _ i.visited here;
-      lender = i.lender;
-    }
+    let M = meaning_of v.table.now in
+    let l = c.loop-c in
+    let i = l.invariant in
+    let column = c.checks_at-c-items.result.now in
+    let d = get_or column l.c-index 0 in
+    let held = holding M.checks c.args.qubit column c.checks_at-c-items.ensures l.c-index (omega arith) in
+    let low : d < length (vec_items l.ground.met) = omega (arith, check_low M.checks d c.args.qubit held, i.walk.roomy.met) in
+    elim c.if-is_open.branch [
+      | then-is_open+then-not-index w ↦
+          let did = w.meet.ensures in
+          rw (w.marks-is, w.ground-is) (record {
+            walk = did.walk;
+            onward = onward_then _ _ _ _ _ _ _ _ _ i.onward did.onward;
+            visited = below_more _ _ (λ k h o. did.onward.met (get_or column k 0) (i.visited k h o)) (λ o. did.met);
+            lender = did.lender ∙ i.lender;
+          })
+      | else-is_open w ↦
+          let here : has v.closed.now d ≡ false → has (vec_items l.ground.met) d ≡ true =
+          λ o. elim w.else-is_open.branch [
+            | else-is_open-via-then-is_open+else-not-index b ↦ sym (sym b.if-not-index.false ∙ b.index.ensures ∙ get_or_default (vec_items l.ground.met) d b.index.result.now false low)
+            | else-is_open-via-else-is_open b ↦ absurd (clash (ap not o) (sym c.is_open.ensures ∙ b.if-is_open.false))
+          ] in
+          rw (w.marks-is, w.ground-is) (record {
+            walk = i.walk;
+            onward = i.onward;
+            visited = below_more _ _ i.visited here;
+            lender = i.lender;
+          })
+    ]
 
 pub meet-requires-clause-touched : goal.meet-requires-clause-touched
 meet-requires-clause-touched c =
@@ -42,7 +57,7 @@ meet-requires-clause-touched c =
     let l = c.loop-c in
     let d = get_or c.checks_at-c-items.result.now l.c-index 0 in
     record {
-      is_open = not-true (has c.args.scene.now.closed.now d) (sym c.is_open.ensures ∙ c.if-not-is_open.false);
+      is_open = not-true (has c.args.scene.now.closed.now d) (sym c.is_open.ensures ∙ c.if-is_open.true);
       qubit = c.args.qubit;
       holds = holding M.checks c.args.qubit c.checks_at-c-items.result.now c.checks_at-c-items.ensures l.c-index (omega arith);
       is_in = l.invariant.onward.kept c.args.qubit c.requires.marked;

@@ -1,5 +1,5 @@
 -- A trial as its callers see it: its table, its state as the rules have it, and what is true of every one.
-use Rattle.std.specs.Prelude.{◌≡◌, ℕ, ◌+◌, ◌≤◌, Bool, List, length}
+use Rattle.std.specs.Prelude.{◌≡◌, ℕ, ◌+◌, ◌<◌, ◌≤◌, Bool, List, length}
 use Rattle.sets.specs.Lists.{In}
 use Rattle.sets.specs.Sets.{size, elements, marks}
 use Rattle.shelf.specs.Shelving.{ToldEntry, Shelving, entries_of}
@@ -44,9 +44,9 @@ state_of status flipped closed odd shelf void number peeled pruned chosen =
       chosen = chosen;
     }
 
--- of a shelf over n qubits: each entry tells its members rising, and they are at most 256
-abbrev pub Told : ℕ → List ToldEntry → Type 0
-Told n l = (e : ToldEntry) → In e l → (elements (marks n e.members) ≡ e.members) × (length e.members ≤ 256)
+-- of a shelf of a code with n qubits and so many checks: each entry tells its members rising, they are at most 256, and its check is one of the code
+abbrev pub Told : ℕ → ℕ → List ToldEntry → Type 0
+Told n checks l = (e : ToldEntry) → In e l → (elements (marks n e.members) ≡ e.members) × (length e.members ≤ 256) × (e.check < checks)
 
 -- what is on the shelf, as the rules have it
 abbrev pub shelf_of : Shelving → List Entry

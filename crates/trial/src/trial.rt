@@ -1,5 +1,5 @@
 //! A trial.
-ghost use Rattle.std.specs.Prelude.{◌≡◌, ◌≤◌, vec_capacity};
+ghost use Rattle.std.specs.Prelude.{◌≡◌, ◌≤◌, length, vec_capacity};
 ghost use Rattle.meaning.specs.Meaning.{qubits};
 ghost use Rattle.table.specs.OfTable.{meaning_of};
 ghost use Rattle.trial.specs.Standing.{Sized, Told, shelf_of, state_of};
@@ -16,6 +16,7 @@ mod finishing;
 pub mod opening;
 mod peeling;
 mod pruning;
+mod settling;
 mod solving;
 mod sweeping;
 pub mod viewing;
@@ -38,7 +39,7 @@ pub struct Trial<'t> {
     ghost sized: { Sized (meaning_of board.erasures.table.now) (state_of board.erasures.status.items board.flipped.items closed.items board.odd.items (shelf_of shelf) void number peeled pruned chosen) },
     ghost room: { qubits (meaning_of board.erasures.table.now) ≤ vec_capacity listed },
     ghost shelved: { shelf.qubits ≡ qubits (meaning_of board.erasures.table.now) },
-    ghost told: { Told shelf.qubits shelf.entries },
+    ghost told: { Told shelf.qubits (length closed.items) shelf.entries },
 }
 
 impl<'t> Model for Trial<'t> {

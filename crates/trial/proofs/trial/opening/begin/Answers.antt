@@ -1,4 +1,4 @@
-use Rattle.std.proofs.Common.{false, replicate, sym, ap, ◌∙◌, subst, arith}
+use Rattle.std.proofs.Common.{length, vec_items, false, replicate, sym, ap, ◌∙◌, subst, arith}
 use Rattle.meaning.specs.Meaning.{qubits}
 use Rattle.table.specs.OfTable.{meaning_of}
 use Rattle.table.specs.declared.Table.{Table}
@@ -15,7 +15,7 @@ invariant_of-result c =
     let odd = c.in_ok-odd.ensures ∙ ap (λ k. marked c.args.report.odd.now (replicate k false)) c.checks-2.ensures in
     let is = c.in_ok-erasures.ensures in
     let same = ap (λ (x : Table). qubits (meaning_of x)) is.0 in
-    (is_sized c.args.table.now c.args.report.lost.now c.args.report.odd.now c.args.number c.in_ok-erasures.erasures _ _ _ is.0 is.1 flipped closed odd (shelf_of c.in_ok-shelf.shelf) (ap shelf_of c.in_ok-shelf.ensures), (omega (arith, c.in_ok-listed.ensures, c.qubits-2.ensures, same), (ap (λ (v : Shelving). v.qubits) c.in_ok-shelf.ensures ∙ c.qubits-3.ensures ∙ sym same, (subst (λ (v : Shelving). Told v.qubits v.entries) (sym c.in_ok-shelf.ensures) (λ e m. absurd m), tt))))
+    (is_sized c.args.table.now c.args.report.lost.now c.args.report.odd.now c.args.number c.in_ok-erasures.erasures _ _ _ is.0 is.1 flipped closed odd (shelf_of c.in_ok-shelf.shelf) (ap shelf_of c.in_ok-shelf.ensures), (omega (arith, c.in_ok-listed.ensures, c.qubits-2.ensures, same), (ap (λ (v : Shelving). v.qubits) c.in_ok-shelf.ensures ∙ c.qubits-3.ensures ∙ sym same, (subst (λ (v : Shelving). Told v.qubits (length (vec_items c.in_ok-closed.closed)) v.entries) (sym c.in_ok-shelf.ensures) (λ e m. absurd m), tt))))
 
 pub invariant_of-board : goal.invariant_of-board
 invariant_of-board c =

@@ -76,6 +76,10 @@ def sweep(names, step):
     return ["sweep", names.of(step, "trial"), names.of(step, "slip")]
 
 
+def settle(names, step):
+    return ["settle", names.of(step, "trial"), names.of(step, "slip")]
+
+
 def copy_out(names, step):
     return ["copy_out", names.of(step, "trial"), step["buffer"]["len"], step["buffer"]["fill"]]
 
@@ -94,6 +98,7 @@ TRIAL_CALLS = {
     "peel": peel,
     "prune": prune,
     "sweep": sweep,
+    "settle": settle,
     "copy_out": copy_out,
     "close": close,
     "churn": churn,

@@ -84,7 +84,7 @@ still_sized t b k z same done =
       flipped = b.flips;
       closed = t.sized.closed ∙ ap (λ (x : Table). length (meaning_of x).checks) (sym same);
       odds = b.odds;
-      few = omega (arith, ap total done, t.sized.few, size_less (standing_of t).state.erased k, size_less (standing_of t).state.shelved k, n);
+      few = omega (arith, ap total done, t.sized.few, size_less (standing_of t).state.erased k, n);
     }
 
 -- an erased qubit that is done leaves room to count it

@@ -5,3 +5,4 @@ pub mod Prunes
 pub mod Closes
 pub mod Opens
 pub mod Sweeps
+pub mod Settles

@@ -1,26 +1,25 @@
 -- A trial as it is opened.
-use Rattle.std.proofs.Common.{◌≡◌, ℕ, ◌+◌, ◌≤◌, Bool, true, false, List, length, replicate, vec_items, Some, None, Ok, Err, Result, sym, refl, ap, ◌∙◌, subst, arith}
+use Rattle.std.proofs.Common.{◌≡◌, ℕ, ◌+◌, ◌≤◌, Bool, true, false, List, [], length, replicate, vec_items, Some, None, Ok, Err, Result, sym, refl, ap, ◌∙◌, subst, arith}
 use lib.ListN.{length-replicate}
 use Rattle.std.proofs.lemmas.List.{length-map}
 use Rattle.terms.specs.declared.refusal.Refusal.{Refusal}
-use Rattle.sets.specs.Sets.{size, empty}
-use Rattle.sets.proofs.Sets.{has_empty}
+use Rattle.sets.specs.Sets.{size}
 use Rattle.sets.proofs.Sizes.{size_length}
 use Rattle.meaning.specs.Meaning.{Meaning, qubits}
 use Rattle.rules.specs.declared.answers.Status.{Status}
 use Rattle.rules.specs.declared.answers.Status.TheVariants.{Erased, Done}
 use Rattle.rules.specs.Reports.{report, some_past}
-use Rattle.rules.specs.States.{State, opening}
+use Rattle.rules.specs.States.{Entry, State, opening}
 use Rattle.rules.specs.Tallies as rules
 use Rattle.table.specs.OfTable.{meaning_of}
 use Rattle.table.specs.declared.Table.{Table}
 use Rattle.upkeep.specs.Changed.{changed, marked}
+use Rattle.upkeep.specs.Counts.{shelf_size}
 use Rattle.upkeep.specs.Fault.{fault}
-use Rattle.upkeep.specs.Statuses.{is_erased, is_shelved, erased_of, shelved_of}
+use Rattle.upkeep.specs.Statuses.{is_erased, is_shelved, erased_of}
 use Rattle.upkeep.proofs.Changed.{length_changed}
-use Rattle.upkeep.proofs.Counts.{size_nothing}
 use Rattle.upkeep.proofs.Faults.{fault_some, fault_none}
-use Rattle.upkeep.proofs.Opened.{shelved_changed, shelved_none, is_opening}
+use Rattle.upkeep.proofs.Opened.{is_opening}
 use Rattle.trial.specs.Standing.{Sized, state_of}
 use Rattle.trial.specs.Opening.{Opens}
 use Rattle.trial.specs.declared.trial.erasing.Erasures.{Erasures}
@@ -30,17 +29,8 @@ module _ (n : ℕ) (lost : List ℕ) (status : List Status) (e : status ≡ chan
   pub statuses_fit : length status ≡ n
   statuses_fit = ap length e ∙ length_changed Done (λ _. Erased) lost (replicate n Done) ∙ length-replicate n Done
 
-  pub statuses_few : 0 + 0 + 0 + size (erased_of status) + size (shelved_of status) ≤ n
-  statuses_few =
-      omega (
-        arith,
-        size_length (erased_of status),
-        length-map status is_erased,
-        statuses_fit,
-        ap (λ l. size (shelved_of l)) e,
-        ap size (shelved_changed n lost (replicate n Done) (shelved_none n)),
-        size_nothing (empty n) (has_empty n),
-      )
+  pub statuses_few : 0 + 0 + 0 + size (erased_of status) + 0 ≤ n
+  statuses_few = omega (arith, size_length (erased_of status), length-map status is_erased, statuses_fit)
 
 module _ (M : Meaning) (t : rules.Tally) (lost odds : List ℕ) where
   -- what the rule does with a report that it takes
@@ -70,13 +60,14 @@ module _ (t : Table) (lost odds : List ℕ) (number : ℕ) (e : Erasures) (flipp
     (is_lost : vec_items e.status ≡ changed Done (λ _. Erased) lost (replicate (qubits (meaning_of t)) Done))
     (is-flipped : flipped ≡ replicate (qubits (meaning_of t)) false)
     (is-closed : closed ≡ replicate (length (meaning_of t).checks) false)
-    (is_odd : odd ≡ marked odds (replicate (length (meaning_of t).checks) false)) where
+    (is_odd : odd ≡ marked odds (replicate (length (meaning_of t).checks) false))
+    (shelf : List Entry) (is-none : shelf ≡ []) where
   abbrev state : State
-  state = state_of (vec_items e.status) flipped closed odd false number 0 0 0
+  state = state_of (vec_items e.status) flipped closed odd shelf false number 0 0 0
 
   pub begins : some_past (qubits (meaning_of t)) lost ≡ false → some_past (length (meaning_of t).checks) odds ≡ false → state ≡ opening (meaning_of t) (report (meaning_of t) lost odds) number
   begins low-lost low-odds =
-      let none : ◌≡◌ {A = State} _ _ = λ i. state_of (vec_items e.status) (is-flipped i) (is-closed i) (is_odd i) false number 0 0 0 in
+      let none : ◌≡◌ {A = State} _ _ = λ i. state_of (vec_items e.status) (is-flipped i) (is-closed i) (is_odd i) (is-none i) false number 0 0 0 in
       none ∙ is_opening (meaning_of t) lost odds number low-lost low-odds (vec_items e.status) is_lost
 
   pub is_sized : Sized (meaning_of e.table.now) state
@@ -91,6 +82,6 @@ module _ (t : Table) (lost odds : List ℕ) (number : ℕ) (e : Erasures) (flipp
         flipped = ap length is-flipped ∙ length-replicate n false;
         closed = ap length is-closed ∙ length-replicate m false;
         odds = ap length is_odd ∙ length_changed false (λ _. true) odds (replicate m false) ∙ length-replicate m false;
-        few = statuses_few n lost (vec_items e.status) is_lost;
+        few = omega (arith, statuses_few n lost (vec_items e.status) is_lost, ap shelf_size is-none);
       } in
       subst (λ (x : Table). Sized (meaning_of x) state) (sym same) all

@@ -1,22 +1,25 @@
 -- A trial as its callers see it: its table, its state as the rules have it, and what is true of every one.
-use Rattle.std.specs.Prelude.{◌≡◌, ℕ, ◌+◌, ◌≤◌, Bool, List, [], length}
-use Rattle.sets.specs.Sets.{size}
+use Rattle.std.specs.Prelude.{◌≡◌, ℕ, ◌+◌, ◌<◌, ◌≤◌, Bool, List, length}
+use Rattle.sets.specs.Lists.{In}
+use Rattle.sets.specs.Sets.{size, elements, marks}
+use Rattle.shelf.specs.Shelving.{ToldEntry, Shelving, entries_of}
 use Rattle.meaning.specs.Meaning.{Meaning, qubits}
 use Rattle.rules.specs.declared.answers.Status.{Status}
-use Rattle.rules.specs.States.{State}
+use Rattle.rules.specs.States.{Entry, State}
 use Rattle.table.specs.OfTable.{meaning_of}
 use Rattle.table.specs.declared.Table.{Table}
+use Rattle.upkeep.specs.Counts.{shelf_size}
 use Rattle.upkeep.specs.Statuses.{erased_of, shelved_of}
 
 -- what is true of every trial: there is a mark for each qubit and each check of the code;
--- and the counts and the qubits that are left come to no more than the qubits, so that no count overflows
+-- and the counts, the erased qubits and the members of the shelf come to no more than the qubits, so that no count overflows
 pub record Sized (M : Meaning) (s : State) : Type 0 where
   pub erased : length s.erased ≡ qubits M
   pub shelved : length s.shelved ≡ qubits M
   pub flipped : length s.flipped ≡ qubits M
   pub closed : length s.closed ≡ length M.checks
   pub odds : length s.odds ≡ length M.checks
-  pub few : s.peeled + s.pruned + s.chosen + size s.erased + size s.shelved ≤ qubits M
+  pub few : s.peeled + s.pruned + s.chosen + size s.erased + shelf_size s.shelf ≤ qubits M
 
 -- what a contract sees of a trial
 pub record Standing : Type 0 where
@@ -24,19 +27,27 @@ pub record Standing : Type 0 where
   pub state : State
   pub sized : Sized (meaning_of table) state
 
--- the state that lists of statuses and marks, the void mark, the slip's number and the counts make
-abbrev pub state_of : List Status → (flipped closed odd : List Bool) → (void : Bool) → (number peeled pruned chosen : ℕ) → State
-state_of status flipped closed odd void number peeled pruned chosen =
+-- the state that lists of statuses and marks, the shelf, the void mark, the slip's number and the counts make
+abbrev pub state_of : List Status → (flipped closed odd : List Bool) → (shelf : List Entry) → (void : Bool) → (number peeled pruned chosen : ℕ) → State
+state_of status flipped closed odd shelf void number peeled pruned chosen =
     record {
       erased = erased_of status;
       shelved = shelved_of status;
       flipped = flipped;
       closed = closed;
       odds = odd;
-      shelf = [];
+      shelf = shelf;
       void = void;
       number = number;
       peeled = peeled;
       pruned = pruned;
       chosen = chosen;
     }
+
+-- of a shelf of a code with n qubits and so many checks: each entry tells its members rising, they are at most 256, and its check is one of the code
+abbrev pub Told : ℕ → ℕ → List ToldEntry → Type 0
+Told n checks l = (e : ToldEntry) → In e l → (elements (marks n e.members) ≡ e.members) × (length e.members ≤ 256) × (e.check < checks)
+
+-- what is on the shelf, as the rules have it
+abbrev pub shelf_of : Shelving → List Entry
+shelf_of v = entries_of v.qubits v.entries

@@ -1,10 +1,11 @@
 //! A trial.
-ghost use Rattle.std.specs.Prelude.{◌≤◌, vec_capacity};
+ghost use Rattle.std.specs.Prelude.{◌≡◌, ◌≤◌, length, vec_capacity};
 ghost use Rattle.meaning.specs.Meaning.{qubits};
 ghost use Rattle.table.specs.OfTable.{meaning_of};
-ghost use Rattle.trial.specs.Standing.{Sized, state_of};
+ghost use Rattle.trial.specs.Standing.{Sized, Told, shelf_of, state_of};
 
 use crate::trial::board::Board;
+use shelf::Shelf;
 use std::marker::Model;
 use systems::System;
 
@@ -15,6 +16,7 @@ mod finishing;
 pub mod opening;
 mod peeling;
 mod pruning;
+mod settling;
 mod solving;
 mod sweeping;
 pub mod viewing;
@@ -33,8 +35,11 @@ pub struct Trial<'t> {
     system: System,
     /// Where qubits are listed that a system is to be over.
     listed: Vec<u16>,
-    ghost sized: { Sized (meaning_of board.erasures.table.now) (state_of board.erasures.status.items board.flipped.items closed.items board.odd.items void number peeled pruned chosen) },
+    shelf: Shelf,
+    ghost sized: { Sized (meaning_of board.erasures.table.now) (state_of board.erasures.status.items board.flipped.items closed.items board.odd.items (shelf_of shelf) void number peeled pruned chosen) },
     ghost room: { qubits (meaning_of board.erasures.table.now) ≤ vec_capacity listed },
+    ghost shelved: { shelf.qubits ≡ qubits (meaning_of board.erasures.table.now) },
+    ghost told: { Told shelf.qubits (length closed.items) shelf.entries },
 }
 
 impl<'t> Model for Trial<'t> {

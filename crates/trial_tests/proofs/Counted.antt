@@ -9,10 +9,10 @@ use Rattle.rules.specs.declared.answers.Outcome.{Outcome}
 use Rattle.rules.specs.declared.answers.Outcome.TheVariants.{Solved, Nothing, Unfinished}
 use Rattle.rules.specs.declared.answers.Verdict.{Verdict}
 use Rattle.rules.specs.Reports.{report}
-use Rattle.rules.specs.States.{State, opening}
-use Rattle.rules.specs.Moves.{sweep_from}
+use Rattle.rules.specs.States.{Entry, State, opening, reopen}
+use Rattle.rules.specs.Moves.{sweep_from, settle_from}
 use Rattle.rules.specs.Refusing.{wrong_slip}
-use Rattle.rules.specs.Calls.{peel_bars, peel, prune_bars, prune, sweep_bars, sweep_found, sweep}
+use Rattle.rules.specs.Calls.{peel_bars, peel, prune_bars, prune, sweep_bars, sweep_found, sweep, settle_bars, settle_found, settle_newest, settle}
 use Rattle.rules.specs.Tallies as rules
 use Rattle.rules.specs.Companions.{Kept}
 use Rattle.rules.proofs.Bars.{guarded, accepted, passed, not_ok}
@@ -120,6 +120,19 @@ pub sweep_number : (M : Meaning) (t u : Trial) (slip : ℕ) (r : Result (Unit {0
 sweep_number M t u slip r e =
     ap (λ (x : Result (Unit {0}) Refusal × State). x.1.number) e
     ∙ guarded (sweep_bars t.state) t.state _ (λ (x : State). x.number ≡ t.state.number) refl (λ _. found_number M t.state slip (sweep_from M t.state))
+
+settled_number : (M : Meaning) (before s : State) (k : List Bool) (found : List (List Bool)) → before.number ≡ s.number → (settle_found M before s k found).1.number ≡ before.number
+settled_number M before s k [] e = refl
+settled_number M before s k (z ∷ found) e = sym e
+
+newest_number : (M : Meaning) (s : State) (l : List Entry) → (settle_newest M s l).1.number ≡ s.number
+newest_number M s [] = refl
+newest_number M s (e ∷ l) = settled_number M s (reopen e.check l s) e.members (settle_from M s e l) refl
+
+pub settle_number : (M : Meaning) (t u : Trial) (slip : ℕ) (r : Result (Unit {0}) Refusal) → ◌≡◌ {A = Result (Unit {0}) Refusal × State} (r, u.state) (settle M t.state slip) → u.state.number ≡ t.state.number
+settle_number M t u slip r e =
+    ap (λ (x : Result (Unit {0}) Refusal × State). x.1.number) e
+    ∙ guarded (settle_bars t.state slip) t.state _ (λ (x : State). x.number ≡ t.state.number) refl (λ _. newest_number M t.state t.state.shelf)
 
 -- and another trial of the same number leaves each slip the number at its place
 pub own_after : (slips : List (Option Slip)) (l : List Trial) (k : ℕ) (u d : Trial) → u.state.number ≡ (get_or l k d).state.number → Own slips (trial_numbers l) → Own slips (trial_numbers (set l k u))

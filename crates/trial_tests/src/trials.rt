@@ -82,6 +82,21 @@ impl<'t> Trials<'t> {
         Told::of_trial(answer, place)
     }
 
+    /// Settles the trial of one place and shows it the slip of another.
+    pub(crate) fn settle(&mut self, numbers: &mut Numbers) -> Told
+        ensures { self.new.slips.items ≡ self.old.slips.items }
+    {
+        let place = numbers.place();
+        let Some(Some(slip)) = self.slips.get(numbers.place()) else {
+            return Told::unknown();
+        };
+        let Some(trial) = self.trials.get_mut(place) else {
+            return Told::unknown();
+        };
+        let answer = Answer::from(trial.settle(slip));
+        Told::of_trial(answer, place)
+    }
+
     /// Makes room for one more trial and its slip. It comes before the opening, for a slip cannot be let go for want of memory.
     pub(crate) fn make_room(&mut self) -> Result<(), AllocError>
         ensures slips { OnOk result (vec_len self.new.slips < vec_capacity self.new.slips) }

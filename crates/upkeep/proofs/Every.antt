@@ -208,7 +208,7 @@ module _ (M : Meaning) where
 
 -- erased qubits that are done leave room to count a slack, which is no more than they are
 pub room_for_all : (M : Meaning) (s : State) (k z : List Bool) (c : ℕ) → length s.erased ≡ length k → ((i : ℕ) → has k i ≡ true → has s.erased i ≡ true) → c ≤ size k → total (finish M k z s) + c ≤ total s
-room_for_all M s k z c l inside few = omega (arith, size_part s.erased k l inside, size_less s.shelved k)
+room_for_all M s k z c l inside few = omega (arith, size_part s.erased k l inside)
 
 pub count_chosen : (s : State) (c : ℕ) → with_counts s s.peeled s.pruned (s.chosen + c) ≡ count 0 0 c s
 count_chosen s c = let a = sym (add-zero s.peeled) in let b = sym (add-zero s.pruned) in λ i. with_counts s (a i) (b i) (s.chosen + c)

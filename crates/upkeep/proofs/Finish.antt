@@ -4,11 +4,12 @@ use lib.ListN.{length-replicate}
 use Rattle.sets.specs.Lists.{Distinct}
 use Rattle.sets.specs.Sets.{has, row, plus, empty, only, among, size}
 use Rattle.sets.proofs.Sets.{has_empty, only_self}
-use Rattle.sets.proofs.Sizes.{size_fewer, size_less}
+use Rattle.sets.proofs.Sizes.{size_fewer}
 use Rattle.meaning.specs.Meaning.{Meaning, qubits}
 use Rattle.rules.specs.Reports.{syndrome}
 use Rattle.rules.specs.States.{State, finish, count}
 use Rattle.upkeep.specs.Changed.{turned}
+use Rattle.upkeep.specs.Counts.{shelf_size}
 use Rattle.upkeep.proofs.One.{less_only, plus_only, plus_nothing, syndrome_none, syndrome_one}
 
 -- the marks of a state are as long as the code has qubits and checks
@@ -82,8 +83,8 @@ count_pruned s = let a = sym (add-zero s.peeled) in let b = sym (add-zero s.chos
 
 -- how much is counted, and left
 abbrev pub total : State → ℕ
-total s = s.peeled + s.pruned + s.chosen + size s.erased + size s.shelved
+total s = s.peeled + s.pruned + s.chosen + size s.erased + shelf_size s.shelf
 
 -- an erased qubit that is done leaves room to count it
 pub room_for_one : (M : Meaning) (s : State) (q : ℕ) (z : List Bool) → q < qubits M → has s.erased q ≡ true → total (finish M (only (qubits M) q) z s) + 1 ≤ total s
-room_for_one M s q z low lost = omega (arith, size_fewer s.erased (only (qubits M) q) q lost (only_self (qubits M) q low), size_less s.shelved (only (qubits M) q))
+room_for_one M s q z low lost = omega (arith, size_fewer s.erased (only (qubits M) q) q lost (only_self (qubits M) q low))

@@ -15,6 +15,7 @@ use crate::report::Report;
 use crate::slip::Slip;
 use crate::tally::Tally;
 use marking::changing::mark;
+use shelf::Shelf;
 use std::alloc::{AllocError, Global};
 use systems::System;
 use table::Table;
@@ -63,6 +64,7 @@ fn begin<'t>(
     let odd = marked_marks(heap, table.checks() as usize, report.odd)?;
     let system = System::new(heap)?;
     let listed = Vec::with_capacity(heap, table.qubits() as usize)?;
+    let shelf = Shelf::new(heap, table.qubits(), table.checks())?;
     let board = Board {
         erasures,
         flipped,
@@ -78,6 +80,7 @@ fn begin<'t>(
         chosen: 0,
         system,
         listed,
+        shelf,
     })
 }
 

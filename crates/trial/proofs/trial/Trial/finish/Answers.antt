@@ -1,4 +1,4 @@
-use Rattle.std.proofs.Common.{cond, ap, ◌∙◌, arith}
+use Rattle.std.proofs.Common.{cond, sym, ap, ◌∙◌, arith}
 use Rattle.table.specs.OfTable.{meaning_of}
 use Rattle.table.specs.declared.Table.{Table}
 use Rattle.sets.specs.Sets.{only, empty}
@@ -12,7 +12,8 @@ use Rattle.trial.proofs.trial.Trial.finish.Goals as goal
 pub invariant_of-self-inside : goal.invariant_of-self-inside
 invariant_of-self-inside c =
     let t = c.self.inside in
-    (still_sized t c.finish.new.self _ _ c.finish.ensures.table (c.finish.ensures.does (standing_of t).state), (omega (arith, t.room, ap (λ (x : Table). qubits (meaning_of x)) c.finish.ensures.table), tt))
+    let n = ap (λ (x : Table). qubits (meaning_of x)) c.finish.ensures.table in
+    (still_sized t c.finish.new.self _ _ c.finish.ensures.table (c.finish.ensures.does (standing_of t).state), (omega (arith, t.room, n), (t.shelved ∙ sym n, (t.told, tt))))
 
 pub returns-clause-does : goal.returns-clause-does
 returns-clause-does c =

@@ -108,7 +108,7 @@ invariant_of-self-inside-2 c =
     let i = still_sized c.self.inside b s.erased z c.finish_each.ensures.table done in
     let n = ap (λ (t : Table). qubits (meaning_of t)) c.finish_each.ensures.table in (
       record { erased = i.erased; shelved = i.shelved; flipped = i.flipped; closed = i.closed; odds = i.odds; few = omega (arith, room_for_all (code x) s s.erased z c.in-Some.slack refl (λ j e. e) less, ap total done, x.sized.few, n) },
-      (omega (arith, c.self.inside.room, c.list.ensures.capacity, n), tt),
+      (omega (arith, c.self.inside.room, c.list.ensures.capacity, n), (c.self.inside.shelved ∙ sym n, (c.self.inside.told, tt))),
     )
 
 pub returns-clause-does : goal.returns-clause-does

@@ -1,7 +1,7 @@
 //! Changes at listed places. A place past the end changes nothing.
 ghost use Rattle.std.specs.Prelude.{◌≡◌};
 ghost use Rattle.marking.specs.Written.{written};
-ghost use Rattle.upkeep.specs.Changed.{changed, turned, marked, lowered, raised};
+ghost use Rattle.upkeep.specs.Changed.{changed, turned, marked, unmarked, lowered, raised};
 
 use terms::refusal::Refusal;
 
@@ -17,6 +17,13 @@ pub fn mark(places: &[u16], marks: &mut [bool])
     ensures { marks.new ≡ marked places.now marks.old }
 {
     change_each(places, marks, |_| true);
+}
+
+/// Takes the mark at each listed place back.
+pub fn unmark(places: &[u16], marks: &mut [bool])
+    ensures { marks.new ≡ unmarked places.now marks.old }
+{
+    change_each(places, marks, |_| false);
 }
 
 /// Makes the count at each listed place one lower; 0 stays.

@@ -1,9 +1,9 @@
 -- Checks that touch the unknowns, looked at one after another.
-use Rattle.std.proofs.Common.{◌≡◌, ℕ, zero, suc, ◌+◌, ◌<◌, ◌≤◌, Option, Some, None, is_some, vec_items, Bool, true, false, cond, List, [], ◌∷◌, length, get_or, set, sym, refl, ap, ◌∙◌, subst, arith}
+use Rattle.std.proofs.Common.{◌≡◌, ℕ, zero, suc, ◌+◌, ◌<◌, ◌≤◌, Option, Some, None, is_some, vec_items, Bool, true, false, cond, ◌||◌, List, [], ◌∷◌, length, get_or, set, sym, refl, ap, ◌∙◌, subst, arith}
 use lib.ListN.{length-take}
 use Rattle.std.specs.Option.{MatchOption}
 use Rattle.sets.specs.Lists.{In}
-use Rattle.sets.specs.Sets.{has, meets, size, elements, empty, among}
+use Rattle.sets.specs.Sets.{has, join, meets, size, elements, empty, among}
 use Rattle.sets.proofs.Bits.{clash}
 use Rattle.sets.proofs.Lists.{in_get_or}
 use Rattle.sets.proofs.Numbers.{among_in, in_among, length_elements}
@@ -19,12 +19,31 @@ until i [] = []
 until zero (x ∷ m) = false ∷ until zero m
 until (suc i) (x ∷ m) = x ∷ until i m
 
-pub until_none : (m : List Bool) (n : ℕ) → length m ≡ n → empty n ≡ until 0 m
-until_none m n e = ap empty (sym e) ∙ go m
-  where
-    go : (m : List Bool) → empty (length m) ≡ until 0 m
-    go [] = refl
-    go (x ∷ m) = ap (λ l. false ∷ l) (go m)
+-- with nothing of the other set, a set is as it was; and the empty one with all of the other is the other
+pub join_until_none : (a m : List Bool) → length a ≡ length m → join a (until 0 m) ≡ a
+join_until_none [] [] e = refl
+join_until_none [] (x ∷ m) e = absurd (omega (arith, e))
+join_until_none (x ∷ a) [] e = absurd (omega (arith, e))
+join_until_none (true ∷ a) (y ∷ m) e = ap (λ l. true ∷ l) (join_until_none a m (omega (arith, e)))
+join_until_none (false ∷ a) (y ∷ m) e = ap (λ l. false ∷ l) (join_until_none a m (omega (arith, e)))
+
+pub join_empty : (n : ℕ) (m : List Bool) → length m ≡ n → join (empty n) m ≡ m
+join_empty zero [] e = refl
+join_empty zero (x ∷ m) e = absurd (omega (arith, e))
+join_empty (suc n) [] e = absurd (omega (arith, e))
+join_empty (suc n) (x ∷ m) e = ap (λ l. x ∷ l) (join_empty n m (omega (arith, e)))
+
+pub join_set : (a m : List Bool) (i : ℕ) → i < length a → i < length m → set (join a m) i true ≡ join a (set m i true)
+join_set [] m i h h' = absurd (omega arith)
+join_set (x ∷ a) [] i h h' = absurd (omega arith)
+join_set (true ∷ a) (y ∷ m) zero h h' = refl
+join_set (false ∷ a) (y ∷ m) zero h h' = refl
+join_set (x ∷ a) (y ∷ m) (suc i) h h' = ap (λ l. (x || y) ∷ l) (join_set a m i (omega arith) (omega arith))
+
+pub length_until : (i : ℕ) (m : List Bool) → length (until i m) ≡ length m
+length_until i [] = refl
+length_until zero (x ∷ m) = ap suc (length_until zero m)
+length_until (suc i) (x ∷ m) = ap suc (length_until i m)
 
 pub until_all : (i : ℕ) (m : List Bool) → length m ≡ i → until i m ≡ m
 until_all i [] e = refl

@@ -9,14 +9,14 @@ ghost use Rattle.linear.specs.System.{Row as Equation};
 ghost use Rattle.linear.specs.Compress.{compress};
 ghost use Rattle.rules.specs.Reports.{rises};
 ghost use Rattle.elimination.specs.Holds.{Holds};
-ghost use Rattle.elimination.specs.Calls.{too_many};
+ghost use Rattle.elimination.specs.Calls.{too_many, KeptIfRefused};
 ghost use Rattle.table.specs.OfTable.{meaning_of};
 ghost use Rattle.upkeep.specs.Changed.{marked};
-ghost use Rattle.systems.specs.Stated.{Stated, KeptIfRefused, unknowns_of};
+ghost use Rattle.systems.specs.Stated.{Stated, unknowns_of};
 
 use super::{MOST, System};
 use elimination::Elimination;
-use marking::looking::is_rising;
+use marking::looking::{is_marked, is_rising};
 use std::alloc::Global;
 use table::Table;
 use terms::refusal::Refusal;
@@ -66,7 +66,7 @@ impl System {
         ensures { (k among : List Bool) → Stated self.old (meaning_of table.now) k among odd.now → Stated self.new (meaning_of table.now) k (marked checks.now among) odd.now }
     {
         for check in checks {
-            self.add(table, *check, is_marked(odd, *check));
+            self.add(table, *check, is_marked(*check, odd));
         }
     }
 
@@ -90,11 +90,4 @@ pub(crate) fn place_of(unknowns: &[u16], qubit: u16) -> Option<u16>
 {
     let place = unknowns.binary_search(&qubit).ok()?;
     u16::try_from(place).ok()
-}
-
-/// Whether a place is marked. One past the end is not.
-pub(crate) fn is_marked(marks: &[bool], place: u16) -> bool
-    ensures { result ≡ has marks.now place }
-{
-    marks.get(usize::from(place)) == Some(&true)
 }

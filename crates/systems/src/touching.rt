@@ -1,23 +1,24 @@
 //! All checks that touch the unknowns.
 ghost use Rattle.std.specs.Prelude.{◌≡◌, Bool, true, false, List, length};
-ghost use Rattle.sets.specs.Sets.{has, row, less, meets, holders, empty};
+ghost use Rattle.sets.specs.Sets.{row, join, less, meets, holders};
 ghost use Rattle.table.specs.OfTable.{meaning_of};
 ghost use Rattle.systems.specs.Stated.{Stated};
 
 use super::System;
-use crate::stating::{is_marked, place_of};
+use crate::stating::place_of;
+use marking::looking::is_marked;
 use table::Table;
 use terms::row::Row;
 
 impl System {
     /// Adds each open check of the code that holds an unknown, odd if it is marked so.
     pub fn add_touched(&mut self, table: &Table, closed: &[bool], odd: &[bool])
-        ensures { (k : List Bool) → length closed.now ≡ length (meaning_of table.now).checks → Stated self.old (meaning_of table.now) k (empty (length (meaning_of table.now).checks)) odd.now → Stated self.new (meaning_of table.now) k (less (holders (meaning_of table.now).checks k) closed.now) odd.now }
+        ensures { (k among : List Bool) → length closed.now ≡ length (meaning_of table.now).checks → Stated self.old (meaning_of table.now) k among odd.now → Stated self.new (meaning_of table.now) k (join among (less (holders (meaning_of table.now).checks k) closed.now)) odd.now }
     {
         for check in 0..table.checks() {
-            let touched = self.holds(table, check) && !is_marked(closed, check);
+            let touched = self.holds(table, check) && !is_marked(check, closed);
             if touched {
-                self.add(table, check, is_marked(odd, check));
+                self.add(table, check, is_marked(check, odd));
             }
         }
     }

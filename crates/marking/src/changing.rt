@@ -1,5 +1,5 @@
 //! Changes at listed places. A place past the end changes nothing.
-ghost use Rattle.std.specs.Prelude.{◌≡◌};
+ghost use Rattle.std.specs.Prelude.{◌≡◌, None};
 ghost use Rattle.marking.specs.Written.{written};
 ghost use Rattle.upkeep.specs.Changed.{changed, turned, marked, unmarked, lowered, raised};
 
@@ -38,6 +38,13 @@ pub fn raise(places: &[u16], counts: &mut [u16])
     ensures { counts.new ≡ raised places.now counts.old }
 {
     change_each(places, counts, |count| count.saturating_add(1));
+}
+
+/// Takes out what stands at each listed place.
+pub fn take_out<T: Copy>(places: &[u16], list: &mut [Option<T>])
+    ensures { list.new ≡ changed None (λ _. None) places.now list.old }
+{
+    change_each(places, list, |_| None);
 }
 
 /// Changes what stands at each listed place.

@@ -93,3 +93,8 @@ said_of (Err e) = Err e
 abbrev pub found_of : Result Found TokenFault → Result (Said × Spot) TokenFault
 found_of (Ok f) = Ok (said f.token, f.spot)
 found_of (Err e) = Err e
+
+-- where the run of a fault starts
+abbrev pub spot_of : TokenFault → Spot
+spot_of (Mixed s) = s
+spot_of (TooManyDigits s) = s

@@ -1,5 +1,5 @@
 -- Values read one after the other: what one more does.
-use Rattle.std.proofs.Common.{◌≡◌, ℕ, zero, suc, ◌+◌, List, [], ◌∷◌, ◌++◌, Some, None, Ok, Err, Option, Result, inr, sym, refl, ap, ◌∙◌, append_assoc, append-nil}
+use Rattle.std.proofs.Common.{◌≡◌, ℕ, suc, List, [], ◌∷◌, ◌++◌, Some, None, Ok, Err, Option, Result, inr, sym, refl, ap, ◌∙◌, append_assoc, append-nil}
 use Rattle.tokens.specs.Tokens.{Rest}
 use Rattle.trialfile.specs.declared.fault.SectionFault.{SectionFault}
 use Rattle.trialfile.specs.Reading.{Reading, gives, go_on, each, AnswersUnlessMemory}

@@ -73,7 +73,12 @@ fn falls(last: Option<Place>, row: u16) -> bool
 }
 
 /// Reads the column of a one in a row.
-fn column(tokens: &mut Tokens, columns: u16, last: Option<Place>, row: u16) -> Result<Place, SectionFault>
+fn column(
+    tokens: &mut Tokens,
+    columns: u16,
+    last: Option<Place>,
+    row: u16,
+) -> Result<Place, SectionFault>
     ensures { answered result tokens.new ≡ column columns last row tokens.old }
 {
     let column = number(tokens, Section::Ones)?;
@@ -109,7 +114,12 @@ fn place(tokens: &mut Tokens, sizes: Sizes, last: Option<Place>) -> Result<Place
 }
 
 /// Reads so many ones, each after the one before it.
-fn places(heap: Global, tokens: &mut Tokens, sizes: Sizes, count: u16) -> Result<Vec<Place>, SectionFault>
+fn places(
+    heap: Global,
+    tokens: &mut Tokens,
+    sizes: Sizes,
+    count: u16,
+) -> Result<Vec<Place>, SectionFault>
     ensures { AnswersUnlessMemory (λ v. v.items) result tokens.new (each count (place sizes.rows sizes.columns) Nothing tokens.old) }
 {
     let mut places = Vec::with_capacity(heap, usize::from(count))?;
@@ -123,7 +133,11 @@ fn places(heap: Global, tokens: &mut Tokens, sizes: Sizes, count: u16) -> Result
 }
 
 /// Reads the ones of the seed.
-pub(crate) fn ones(heap: Global, tokens: &mut Tokens, sizes: Sizes) -> Result<Vec<Place>, SectionFault>
+pub(crate) fn ones(
+    heap: Global,
+    tokens: &mut Tokens,
+    sizes: Sizes,
+) -> Result<Vec<Place>, SectionFault>
     ensures { AnswersUnlessMemory (λ v. v.items) result tokens.new (ones sizes.rows sizes.columns tokens.old) }
 {
     let count = count(tokens, Section::Ones)?;
@@ -131,7 +145,12 @@ pub(crate) fn ones(heap: Global, tokens: &mut Tokens, sizes: Sizes) -> Result<Ve
 }
 
 /// Reads a number of a list of the report.
-fn listed(tokens: &mut Tokens, kind: Kind, limit: u16, last: Option<u16>) -> Result<u16, SectionFault>
+fn listed(
+    tokens: &mut Tokens,
+    kind: Kind,
+    limit: u16,
+    last: Option<u16>,
+) -> Result<u16, SectionFault>
     ensures { answered result tokens.new ≡ listed kind limit last tokens.old }
 {
     let number = number(tokens, kind.section())?;
@@ -155,7 +174,13 @@ fn is_above(last: Option<u16>, number: u16) -> bool
 }
 
 /// Reads so many numbers of a list, each above the one before it.
-fn numbers(heap: Global, tokens: &mut Tokens, kind: Kind, limit: u16, count: u16) -> Result<Vec<u16>, SectionFault>
+fn numbers(
+    heap: Global,
+    tokens: &mut Tokens,
+    kind: Kind,
+    limit: u16,
+    count: u16,
+) -> Result<Vec<u16>, SectionFault>
     ensures { AnswersUnlessMemory (λ v. v.items) result tokens.new (each count (listed kind limit) Nothing tokens.old) }
 {
     let mut numbers = Vec::with_capacity(heap, usize::from(count))?;
@@ -169,7 +194,12 @@ fn numbers(heap: Global, tokens: &mut Tokens, kind: Kind, limit: u16, count: u16
 }
 
 /// Reads a list of the report.
-pub(crate) fn list(heap: Global, tokens: &mut Tokens, kind: Kind, limit: u16) -> Result<Vec<u16>, SectionFault>
+pub(crate) fn list(
+    heap: Global,
+    tokens: &mut Tokens,
+    kind: Kind,
+    limit: u16,
+) -> Result<Vec<u16>, SectionFault>
     ensures { AnswersUnlessMemory (λ v. v.items) result tokens.new (list kind limit tokens.old) }
 {
     let count = count(tokens, kind.section())?;

@@ -4,5 +4,5 @@
 pub mod fault;
 pub mod file;
 mod kind;
-pub mod reading;
+mod reading;
 pub mod sizes;

@@ -7,8 +7,10 @@ use tokens::section::{Section, Spot};
 use tokens::token::Token;
 use tokens::tokens::Tokens;
 
+mod lists;
+mod ones;
 mod sections;
-pub mod whole;
+mod whole;
 
 /// A number and where it stands.
 #[derive(Clone, Copy)]
@@ -18,7 +20,7 @@ pub(crate) struct Numeral {
 }
 
 /// Reads the word of a section.
-pub(crate) fn word(tokens: &mut Tokens, section: Section) -> Result<(), SectionFault>
+fn word(tokens: &mut Tokens, section: Section) -> Result<(), SectionFault>
     ensures { answered result tokens.new ≡ word_in section tokens.old }
 {
     let found = tokens.next(section)?;
@@ -36,7 +38,7 @@ pub(crate) fn word(tokens: &mut Tokens, section: Section) -> Result<(), SectionF
 }
 
 /// Reads a number of a section.
-pub(crate) fn number(tokens: &mut Tokens, section: Section) -> Result<Numeral, SectionFault>
+fn number(tokens: &mut Tokens, section: Section) -> Result<Numeral, SectionFault>
     ensures { answered result tokens.new ≡ number_in section tokens.old }
 {
     let found = tokens.next(section)?;
@@ -51,7 +53,7 @@ pub(crate) fn number(tokens: &mut Tokens, section: Section) -> Result<Numeral, S
 }
 
 /// Reads the end of the file.
-pub(crate) fn end(tokens: &mut Tokens) -> Result<(), SectionFault>
+fn end(tokens: &mut Tokens) -> Result<(), SectionFault>
     ensures { answered result tokens.new ≡ end_of_file tokens.old }
 {
     let found = tokens.next(Section::End)?;

@@ -3,13 +3,14 @@ ghost use Rattle.std.specs.Prelude.{◌≡◌, IfOk};
 ghost use Rattle.trialfile.specs.Reading.{AnswersUnlessMemory};
 ghost use Rattle.trialfile.specs.Contents.{contents, contents_of, file_says, SaysUnlessMemory, WithinLimits};
 ghost use Rattle.trialfile.specs.Sections.{sizes};
-ghost use Rattle.trialfile.specs.Reading.{answered};
 
+use super::end;
+use super::lists::list;
+use super::ones::ones;
+use super::sections::{count, size, switches};
 use crate::fault::{FileFault, SectionFault};
 use crate::file::TrialFile;
 use crate::kind::Kind;
-use crate::reading::end;
-use crate::reading::sections::{count, list, ones, size, switches};
 use crate::sizes::Sizes;
 use std::alloc::Global;
 use tokens::section::Section;
@@ -18,16 +19,18 @@ use tokens::tokens::Tokens;
 /// The length of the longest file, in bytes.
 const LONGEST: usize = 32768;
 
-/// Reads a trial file. What is accepted makes a product code, opens a trial on it unless the tally is full, and names stages of a run.
-pub fn read(heap: Global, file: &[u8]) -> Result<TrialFile, FileFault>
-    ensures says { SaysUnlessMemory result (file_says file.now) }
-    ensures within { IfOk result (λ f. WithinLimits (contents_of f)) }
-{
-    if file.len() > LONGEST {
-        return Err(FileFault::TooLong);
+impl TrialFile {
+    /// Reads a trial file. What is accepted makes a product code, opens a trial on it unless the tally is full, and names stages of a run.
+    pub fn read(heap: Global, file: &[u8]) -> Result<TrialFile, FileFault>
+        ensures says { SaysUnlessMemory result (file_says file.now) }
+        ensures within { IfOk result (λ f. WithinLimits (contents_of f)) }
+    {
+        if file.len() > LONGEST {
+            return Err(FileFault::TooLong);
+        }
+        let contents = contents(heap, &mut Tokens::of(file))?;
+        Ok(contents)
     }
-    let contents = contents(heap, &mut Tokens::of(file))?;
-    Ok(contents)
 }
 
 /// Reads the sections in their order, and the end.

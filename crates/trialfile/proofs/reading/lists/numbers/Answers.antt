@@ -2,7 +2,7 @@ use Rattle.std.proofs.Common.{◌≡◌, ◌+◌, ◌-◌, suc, vec_items, arith
 use Rattle.std.proofs.lemmas.Result.{err_from_is_err_and}
 use Rattle.trialfile.specs.Sections.{listed}
 use Rattle.trialfile.proofs.Each.{told_fault, each_begins, each_more, each_fails, each_done}
-use Rattle.trialfile.proofs.reading.sections.numbers.Goals as goal
+use Rattle.trialfile.proofs.reading.lists.numbers.Goals as goal
 
 pub loop-read-init : goal.loop-read-init
 loop-read-init c = each_begins (listed c.args.kind c.args.limit) c.args.count _ _ c.args.tokens.now (omega arith) c.in_ok-numbers.ensures.items

@@ -12,6 +12,7 @@ use Rattle.trialfile.specs.declared.fault.FileFault.{FileFault}
 use Rattle.trialfile.specs.declared.fault.FileFault.TheVariants.{TooLong, Section}
 use Rattle.trialfile.specs.declared.file.TrialFile.{TrialFile}
 use Rattle.trialfile.specs.declared.kind.Kind.TheVariants.{Lost, Odd}
+use Rattle.trialfile.specs.Faults.{longest}
 use Rattle.trialfile.specs.Reading.{Reading, gives, and_then, end_of_file}
 use Rattle.trialfile.specs.Sections.{sizes, ones, list, switches}
 
@@ -35,13 +36,13 @@ contents =
     and_then end_of_file (λ _.
     gives (record { rows = s.0; columns = s.1; ones = o; lost = l; odd = d; switches = w })))))))
 
--- what a file of at most 32,768 bytes says, or its first fault
+-- what a file says, or its first fault; of a file that is too long nothing is read
 abbrev pub of_file : Result (Contents × Rest) SectionFault → Result Contents FileFault
 of_file (Ok c) = Ok c.0
 of_file (Err e) = Err (Section e)
 
 abbrev pub file_says : List ℕ → Result Contents FileFault
-file_says file = if nat_lt 32768 (length file) then Err TooLong else of_file (contents (all_of file))
+file_says file = if nat_lt longest (length file) then Err TooLong else of_file (contents (all_of file))
 
 -- the same of what the program has read
 abbrev pub contents_of : TrialFile → Contents

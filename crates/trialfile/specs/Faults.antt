@@ -1,5 +1,5 @@
 -- The refusal that a fault is, and where it stands; want of memory stands nowhere.
-use Rattle.std.specs.Prelude.{Some, None, Option}
+use Rattle.std.specs.Prelude.{ℕ, Some, None, Option}
 use Rattle.terms.specs.declared.refusal.Refusal.{Refusal}
 use Rattle.terms.specs.declared.refusal.Refusal.TheVariants as refusal
 use Rattle.tokens.specs.Tokens as tokens
@@ -32,9 +32,12 @@ refusal_in (CheckTooLarge s) = refusal.CheckTooLarge
 refusal_in (NotRising s) = refusal.NotRising
 refusal_in NoMemory = refusal.NoMemory
 
--- a file that is too long is refused where the longest one ends
+-- the length of the longest file, in bytes; a longer one is refused where that ends
+abbrev pub longest : ℕ
+longest = 32768
+
 abbrev pub spot_of : FileFault → Option Spot
-spot_of TooLong = Some (record { section = File; place = 32768 })
+spot_of TooLong = Some (record { section = File; place = longest })
 spot_of (Section e) = spot_in e
 
 abbrev pub refusal_of : FileFault → Refusal

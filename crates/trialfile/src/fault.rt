@@ -2,12 +2,15 @@
 ghost use Rattle.std.specs.Prelude.{◌≡◌};
 ghost use Rattle.trialfile.specs.Faults.{spot_in, spot_of, refusal_in, refusal_of};
 ghost use Rattle.trialfile.specs.declared.fault.SectionFault.TheVariants.{Token, NoMemory};
-ghost use Rattle.trialfile.specs.declared.fault.FileFault.TheVariants.{Section};
+ghost use Rattle.trialfile.specs.declared.fault.FileFault.TheVariants.{Section as InSection};
 
 use std::alloc::{AllocError, AllocFailed};
 use terms::refusal::Refusal;
 use tokens::fault::TokenFault;
-use tokens::section::Spot;
+use tokens::section::{Section, Spot};
+
+/// The length of the longest file, in bytes.
+pub(crate) const LONGEST: usize = 32768;
 
 /// What is wrong in a section: a run that is no token, a token that is not awaited there, the end in place of a token or a token in place of the end,
 /// or a number that is too large or does not rise. `NoMemory` is no fault of the file.
@@ -74,8 +77,8 @@ impl FileFault {
     {
         match self {
             FileFault::TooLong => Some(Spot {
-                section: tokens::section::Section::File,
-                place: 32768,
+                section: Section::File,
+                place: LONGEST,
             }),
             FileFault::Section(fault) => fault.spot(),
         }
@@ -101,7 +104,7 @@ impl From<TokenFault> for SectionFault {
 }
 
 impl From<SectionFault> for FileFault {
-    ghost from_gives = { λ e f. f ≡ Section e };
+    ghost from_gives = { λ e f. f ≡ InSection e };
 
     fn from(fault: SectionFault) -> FileFault {
         FileFault::Section(fault)

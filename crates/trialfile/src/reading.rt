@@ -25,15 +25,9 @@ fn word(tokens: &mut Tokens, section: Section) -> Result<(), SectionFault>
 {
     let found = tokens.next(section)?;
     match found.token {
-        Token::Word(letters) => {
-            if letters == section.word().as_bytes() {
-                Ok(())
-            } else {
-                Err(SectionFault::NotAwaited(found.spot))
-            }
-        }
-        Token::Number(_) => Err(SectionFault::NotAwaited(found.spot)),
+        Token::Word(letters) if letters == section.word().as_bytes() => Ok(()),
         Token::End => Err(SectionFault::EndsEarly(found.spot)),
+        _ => Err(SectionFault::NotAwaited(found.spot)),
     }
 }
 
@@ -43,12 +37,12 @@ fn number(tokens: &mut Tokens, section: Section) -> Result<Numeral, SectionFault
 {
     let found = tokens.next(section)?;
     match found.token {
-        Token::Word(_) => Err(SectionFault::NotAwaited(found.spot)),
         Token::Number(value) => Ok(Numeral {
             value,
             spot: found.spot,
         }),
         Token::End => Err(SectionFault::EndsEarly(found.spot)),
+        Token::Word(_) => Err(SectionFault::NotAwaited(found.spot)),
     }
 }
 

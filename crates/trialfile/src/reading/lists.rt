@@ -1,7 +1,7 @@
 //! The two lists of the report.
 ghost use Rattle.std.specs.Prelude.{◌≡◌, None as Nothing};
 ghost use Rattle.trialfile.specs.Reading.{answered, each, AnswersUnlessMemory};
-ghost use Rattle.trialfile.specs.Sections.{above, listed, list};
+ghost use Rattle.trialfile.specs.Sections.{listed, list};
 
 use super::number;
 use super::sections::count;
@@ -56,18 +56,8 @@ fn listed(
     if number.value >= limit {
         return Err(kind.too_large(number.spot));
     }
-    if !is_above(last, number.value) {
+    if last.is_some_and(|last| number.value <= last) {
         return Err(SectionFault::NotRising(number.spot));
     }
     Ok(number.value)
-}
-
-/// Whether a number is above the last one.
-fn is_above(last: Option<u16>, number: u16) -> bool
-    ensures { result ≡ above last number }
-{
-    match last {
-        Some(last) => last < number,
-        None => true,
-    }
 }

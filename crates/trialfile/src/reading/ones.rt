@@ -1,8 +1,7 @@
 //! The ones of the seed, rising by row and then by column.
 ghost use Rattle.std.specs.Prelude.{◌≡◌, None as Nothing};
-ghost use Rattle.product.specs.Seed.{after};
 ghost use Rattle.trialfile.specs.Reading.{answered, each, AnswersUnlessMemory};
-ghost use Rattle.trialfile.specs.Sections.{falls, row, column, place, ones};
+ghost use Rattle.trialfile.specs.Sections.{row, column, place, ones};
 
 use super::number;
 use super::sections::count;
@@ -60,20 +59,10 @@ fn row(tokens: &mut Tokens, rows: u16, last: Option<Place>) -> Result<u16, Secti
     if row.value >= rows {
         return Err(SectionFault::OutsideLimits(row.spot));
     }
-    if falls(last, row.value) {
+    if last.is_some_and(|last| row.value < last.row) {
         return Err(SectionFault::NotRising(row.spot));
     }
     Ok(row.value)
-}
-
-/// Whether a row is above the last one's.
-fn falls(last: Option<Place>, row: u16) -> bool
-    ensures { result ≡ falls last row }
-{
-    match last {
-        Some(last) => row < last.row,
-        None => false,
-    }
 }
 
 /// Reads the column of a one in a row.
@@ -93,18 +82,8 @@ fn column(
         row,
         column: column.value,
     };
-    if !comes_after(last, place) {
+    if last.is_some_and(|last| place <= last) {
         return Err(SectionFault::NotRising(column.spot));
     }
     Ok(place)
-}
-
-/// Whether a place comes after the last one.
-fn comes_after(last: Option<Place>, place: Place) -> bool
-    ensures { result ≡ after last place }
-{
-    match last {
-        Some(last) => last < place,
-        None => true,
-    }
 }

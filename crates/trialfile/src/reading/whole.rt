@@ -8,16 +8,13 @@ use super::end;
 use super::lists::list;
 use super::ones::ones;
 use super::sections::{count, size, switches};
-use crate::fault::{FileFault, SectionFault};
+use crate::fault::{FileFault, LONGEST, SectionFault};
 use crate::file::TrialFile;
 use crate::kind::Kind;
 use crate::sizes::Sizes;
 use std::alloc::Global;
 use tokens::section::Section;
 use tokens::tokens::Tokens;
-
-/// The length of the longest file, in bytes.
-const LONGEST: usize = 32768;
 
 impl TrialFile {
     /// Reads a trial file. What is accepted makes a product code, opens a trial on it unless the tally is full, and names stages of a run.

@@ -50,7 +50,6 @@ fn shown(outcome: Outcome, qubits: u16) -> u16
 {
     match outcome {
         Outcome::Solved => qubits,
-        Outcome::Nothing => 0,
-        Outcome::Unfinished => 0,
+        Outcome::Nothing | Outcome::Unfinished => 0,
     }
 }

@@ -17,8 +17,7 @@ impl TokenFault {
         ensures { result ≡ spot_of self }
     {
         match self {
-            TokenFault::Mixed(spot) => spot,
-            TokenFault::TooManyDigits(spot) => spot,
+            TokenFault::Mixed(spot) | TokenFault::TooManyDigits(spot) => spot,
         }
     }
 }

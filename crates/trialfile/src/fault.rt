@@ -41,13 +41,13 @@ impl SectionFault {
     {
         match self {
             SectionFault::Token(fault) => Some(fault.spot()),
-            SectionFault::NotAwaited(spot) => Some(spot),
-            SectionFault::EndsEarly(spot) => Some(spot),
-            SectionFault::GoesOn(spot) => Some(spot),
-            SectionFault::OutsideLimits(spot) => Some(spot),
-            SectionFault::QubitTooLarge(spot) => Some(spot),
-            SectionFault::CheckTooLarge(spot) => Some(spot),
-            SectionFault::NotRising(spot) => Some(spot),
+            SectionFault::NotAwaited(spot)
+            | SectionFault::EndsEarly(spot)
+            | SectionFault::GoesOn(spot)
+            | SectionFault::OutsideLimits(spot)
+            | SectionFault::QubitTooLarge(spot)
+            | SectionFault::CheckTooLarge(spot)
+            | SectionFault::NotRising(spot) => Some(spot),
             SectionFault::NoMemory => None,
         }
     }
@@ -57,10 +57,8 @@ impl SectionFault {
         ensures { result ≡ refusal_in self }
     {
         match self {
-            SectionFault::Token(_) => Refusal::NotAwaited,
-            SectionFault::NotAwaited(_) => Refusal::NotAwaited,
-            SectionFault::EndsEarly(_) => Refusal::WrongEnd,
-            SectionFault::GoesOn(_) => Refusal::WrongEnd,
+            SectionFault::Token(_) | SectionFault::NotAwaited(_) => Refusal::NotAwaited,
+            SectionFault::EndsEarly(_) | SectionFault::GoesOn(_) => Refusal::WrongEnd,
             SectionFault::OutsideLimits(_) => Refusal::OutsideLimits,
             SectionFault::QubitTooLarge(_) => Refusal::QubitTooLarge,
             SectionFault::CheckTooLarge(_) => Refusal::CheckTooLarge,
@@ -98,16 +96,16 @@ impl FileFault {
 impl From<TokenFault> for SectionFault {
     ghost from_gives = { λ e f. f ≡ Token e };
 
-    fn from(fault: TokenFault) -> SectionFault {
-        SectionFault::Token(fault)
+    fn from(inner: TokenFault) -> SectionFault {
+        SectionFault::Token(inner)
     }
 }
 
 impl From<SectionFault> for FileFault {
     ghost from_gives = { λ e f. f ≡ InSection e };
 
-    fn from(fault: SectionFault) -> FileFault {
-        FileFault::Section(fault)
+    fn from(inner: SectionFault) -> FileFault {
+        FileFault::Section(inner)
     }
 }
 

@@ -8,13 +8,13 @@ impl Sizes {
     pub fn qubits(self) -> u16
         ensures { result ≡ self.columns * self.columns + self.rows * self.rows }
     {
-        self.columns * self.columns + self.rows * self.rows
+        self.rows * self.rows + self.columns * self.columns
     }
 
     /// How many checks it has.
     pub fn checks(self) -> u16
         ensures { result ≡ self.columns * self.rows }
     {
-        self.columns * self.rows
+        self.rows * self.columns
     }
 }

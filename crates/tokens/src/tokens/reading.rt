@@ -98,6 +98,7 @@ fn is_number(run: &[u8]) -> bool
     run.iter().all(|b| b.is_ascii_digit())
 }
 
+// Kept: a loop, whose invariant bounds the value by the digits so far; a fold's closure knows no place.
 /// The number that is written by at most four digits.
 fn value_of(digits: &[u8]) -> u16
     requires few { length digits.now ≤ 4 }

@@ -23,6 +23,7 @@ pub(super) fn list(
     numbers(heap, tokens, kind, limit, count)
 }
 
+// Kept: a loop; a chain would read on in `tokens` inside a closure, and of what that answers its proof knows nothing.
 /// Reads so many numbers of a list, each above the one before it.
 fn numbers(
     heap: Global,

@@ -24,6 +24,7 @@ pub(super) fn ones(
     places(heap, tokens, sizes, count / 2)
 }
 
+// Kept: a loop; a chain would read on in `tokens` inside a closure, and of what that answers its proof knows nothing.
 /// Reads so many ones, each after the one before it.
 fn places(
     heap: Global,

@@ -1,6 +1,7 @@
 //! A whole file.
-ghost use Rattle.std.specs.Prelude.{◌≡◌, IfOk};
+ghost use Rattle.std.specs.Prelude.{◌≡◌, true, length, IfOk, nat_lt};
 ghost use Rattle.trialfile.specs.Reading.{AnswersUnlessMemory};
+ghost use Rattle.trialfile.specs.Faults.{longest};
 ghost use Rattle.trialfile.specs.Contents.{contents, contents_of, file_says, SaysUnlessMemory, WithinLimits};
 ghost use Rattle.trialfile.specs.Sections.{sizes};
 
@@ -20,6 +21,7 @@ impl TrialFile {
     /// Reads a trial file. What is accepted makes a product code, opens a trial on it unless the tally is full, and names stages of a run.
     pub fn read(heap: Global, file: &[u8]) -> Result<TrialFile, FileFault>
         ensures says { SaysUnlessMemory result (file_says file.now) }
+        ensures long { nat_lt longest (length file.now) ≡ true → result ≡ Err (FileFault.TooLong) }
         ensures within { IfOk result (λ f. WithinLimits (contents_of f)) }
     {
         if file.len() > LONGEST {

@@ -6,3 +6,7 @@ pub mod Closes
 pub mod Opens
 pub mod Sweeps
 pub mod Settles
+pub mod Shelves
+pub mod Clusters
+pub mod Puts
+pub mod Solves

@@ -141,15 +141,15 @@ def expected(step):
         parts.append(words(["counts"] + after["counts"]))
         parts.append("void yes" if after["void"] else "void no")
         parts += [words([kind] + after[kind]) for kind in TRIAL_STATE]
-        # The record has the newest entry last.
-        parts.append(words(["shelf"] + [entry(*one) for one in reversed(after["shelf"])]))
+        parts.append(words(["shelf", len(after["shelf"])] + entries(after["shelf"])))
     if "tally_after" in step:
         parts.append(words(["tally"] + step["tally_after"]))
     return " | ".join(parts)
 
 
-def entry(check, qubits):
-    return "[" + words([check] + qubits) + "]"
+def entries(shelf):
+    """The entries, the newest first; the record has it last."""
+    return [word for check, qubits in reversed(shelf) for word in ["check", check, "with"] + qubits]
 
 
 def played(steps):

@@ -1,7 +1,7 @@
 //! What is told of a call, as text.
 use played::refused::Refused;
 use rules::answers::{Cluster, Outcome, Status, Verdict};
-use shelf::{Entry, Shelf};
+use shelf::Shelf;
 use std::fmt;
 use terms::refusal::Refusal;
 use trial::tally::Counts;
@@ -95,24 +95,21 @@ impl fmt::Display for State<'_> {
     }
 }
 
-/// Writes each entry of a shelf, the newest first: its check, and then its qubits.
+/// Writes how many entries the shelf has, and of each, the newest first, the check and the qubits.
 fn write_shelf<W: fmt::Write>(f: &mut fmt::Formatter<W>, shelf: &Shelf) -> fmt::Result {
-    f.write_str(" | shelf")?;
-    for newer in 0..shelf.len() {
-        if let Some(entry) = shelf.get(newer) {
-            write_entry(f, entry)?;
+    let len = shelf.len();
+    write!(f, " | shelf {len}")?;
+    for newer in 0..len {
+        let Some(entry) = shelf.get(newer) else {
+            return Ok(());
+        };
+        let check = entry.check;
+        write!(f, " check {check} with")?;
+        for qubit in entry.members {
+            write!(f, " {qubit}")?;
         }
     }
     Ok(())
-}
-
-fn write_entry<W: fmt::Write>(f: &mut fmt::Formatter<W>, entry: Entry<'_>) -> fmt::Result {
-    let check = entry.check;
-    write!(f, " [{check}")?;
-    for qubit in entry.members {
-        write!(f, " {qubit}")?;
-    }
-    f.write_str("]")
 }
 
 /// Writes the places of a list that hold what is wanted.

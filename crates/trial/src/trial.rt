@@ -12,6 +12,7 @@ use systems::System;
 mod board;
 pub mod closing;
 mod erasing;
+pub mod finding;
 mod finishing;
 pub mod opening;
 mod peeling;

@@ -1,0 +1,5 @@
+pub mod Lowest
+pub mod Dangling
+pub mod Shrinking
+pub mod Passing
+pub mod Turns

@@ -1,16 +1,19 @@
 -- Where one qubit is done, no check that does not hold it becomes dangling.
-use Rattle.std.proofs.Common.{◌≡◌, ℕ, Bool, true, false, cond, not, eqb, ◌&&◌, List, length, Ok, Result, sym, refl, ap, ◌∙◌, eqb-true}
+use Rattle.std.proofs.Common.{◌≡◌, ℕ, ◌≤◌, Bool, true, false, cond, not, eqb, ◌&&◌, List, [], length, Ok, Err, Result, sym, refl, ap, ◌∙◌, eqb-true}
 use Rattle.std.proofs.lemmas.Bool.{and_parts, not-false}
+use Rattle.std.proofs.lemmas.List.{get_or_past}
 use Rattle.terms.specs.declared.refusal.Refusal.{Refusal}
 use Rattle.sets.specs.Sets.{has, row, meet, less, only, empty, size, lowest, elements}
 use Rattle.sets.proofs.Bits.{clash}
 use Rattle.sets.proofs.Numbers.{length_elements, elements_same}
 use Rattle.sets.proofs.Sets.{has_meet, has_less, only_other, has_any}
-use Rattle.sets.proofs.Sizes.{one_of, lowest_has}
+use Rattle.sets.proofs.Sizes.{one_of, lowest_has, size_none}
 use Rattle.meaning.specs.Meaning.{Meaning, qubits}
 use Rattle.rules.specs.States.{State, finish, count}
 use Rattle.rules.specs.Calls.{held, dangling, peel_bars, peel, prune_bars, prune}
+use Rattle.rules.specs.Companions.{Kept}
 use Rattle.rules.proofs.Bars.{Clear, passed, accepted, guarded}
+use Rattle.rules.proofs.Refused.{refusals_keep}
 
 size_same : (a b : List Bool) → ((j : ℕ) → has a j ≡ has b j) → size a ≡ size b
 size_same a b h = sym (length_elements 0 a) ∙ ap (λ (l : List ℕ). length l) (elements_same 0 a b h) ∙ length_elements 0 b
@@ -68,3 +71,20 @@ module _ (M : Meaning) (s : State) where
   prune_keeps slip q l c lacks =
       guarded (prune_bars M s slip q l) s (Ok tt, count 0 1 0 (finish M (only (qubits M) q) (empty (qubits M)) s)) (λ t. dangling M t c ≡ dangling M s c) refl
       (λ _. dangling_kept (only (qubits M) q) q (λ i h. only_other (qubits M) q i h) c lacks)
+
+  -- no check's number, nothing dangling
+  pub none_past : (j : ℕ) → length M.checks ≤ j → dangling M s j ≡ false
+  none_past j h =
+      ap (λ n. not (has s.closed j) && eqb n 1) (ap (λ r. size (meet r s.erased)) (get_or_past M.checks j [] h) ∙ size_none (λ x. false) (λ _. refl) s.erased) ∙ and_false (not (has s.closed j))
+    where
+      and_false : (b : Bool) → (b && false) ≡ false
+      and_false true = refl
+      and_false false = refl
+
+  -- the peel was refused
+  pub peel_stays : (slip p : ℕ) (r : Result ℕ Refusal) (t : State) → (r, t) ≡ peel M s slip p → ((q : ℕ) → r ≡ Ok q → ⊥) → t ≡ s
+  peel_stays slip p r t e refused = go (peel M s slip p) e ((refusals_keep M s).peel_kept slip p)
+    where
+      go : (x : Result ℕ Refusal × State) → (r, t) ≡ x → Kept s x → t ≡ s
+      go (Ok q, u) e k = absurd (refused q (ap (λ (x : Result ℕ Refusal × State). x.0) e))
+      go (Err f, u) e k = ap (λ (x : Result ℕ Refusal × State). x.1) e ∙ k

@@ -3,3 +3,4 @@ pub mod Dangling
 pub mod Shrinking
 pub mod Passing
 pub mod Turns
+pub mod Staged

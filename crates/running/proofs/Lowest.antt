@@ -3,10 +3,11 @@ use Rattle.std.proofs.Common.{◌≡◌, ℕ, zero, suc, ◌+◌, ◌-◌, ◌<�
 use mathlib.Core.Option.{none, some}
 use Rattle.std.specs.List.{find, range_with_len}
 use Rattle.std.proofs.lemmas.Bool.{cases_Bool, cases_lt}
-use Rattle.sets.specs.Sets.{has, elements, elements_from}
+use Rattle.sets.specs.Sets.{has, any, lowest, elements, elements_from}
 use Rattle.sets.proofs.Bits.{clash}
-use Rattle.rules.specs.Run.{first_that}
-use Rattle.running.specs.Finding.{numbers_from, NoneBelow, back_to, in_rules}
+use Rattle.rules.specs.CallLists.{Call}
+use Rattle.rules.specs.Run.{first_that, as_call}
+use Rattle.running.specs.Finding.{numbers_from, lowest_in, NoneBelow, back_to, in_rules}
 
 not_none : {A : Type 0} {X : Type 0} (a : A) → ◌≡◌ {A = Option A} None (Some a) → X
 not_none {A} {X} a e = let z : ◌≡◌ {A = ℕ} 0 1 = cc in absurd (omega arith)
@@ -51,6 +52,19 @@ module _ (p : ℕ → Bool) where
       go : (k < n) ⊎ (n ≤ k) → find p (numbers_from k n) ≡ find p (range_with_len 0 n) → find p (numbers_from (suc k) n) ≡ find p (range_with_len 0 n)
       go (inl l) ih = ap (λ x. find p (numbers_from x n)) next ∙ found_after n k l (h k (omega arith)) ∙ ih
       go (inr g) ih = found_none n (suc k) (omega arith) ∙ sym (found_none n k g) ∙ ih
+
+  -- a call at the number that is found, as the rules have it
+  pub call_found : (f : ℕ → Call) (k n : ℕ) (o : Option ℕ) → NoneBelow p k → o ≡ find p (numbers_from k n) → as_call f (first_that p (range_with_len 0 n)) ≡ as_call f (in_rules o)
+  call_found f k n o h e = ap (as_call f) (first_is (range_with_len 0 n) ∙ ap in_rules (sym (from_there k n h) ∙ sym e))
+
+  -- what is found passes
+  pub found_passes : (l : List ℕ) (c : ℕ) → find p l ≡ Some c → p c ≡ true
+  found_passes [] c e = not_none c e
+  found_passes (k ∷ l) c e = go (p k) refl e (found_passes l c)
+    where
+      go : (t : Bool) → p k ≡ t → cond t (Some k) (find p l) ≡ Some c → (find p l ≡ Some c → p c ≡ true) → p c ≡ true
+      go true f x ih = ap p (sym (some_same k c x)) ∙ f
+      go false f x ih = ih x
 
   -- below the number that is found none passes
   below_found : (m k c : ℕ) → NoneBelow p k → find p (range_with_len k m) ≡ Some c → NoneBelow p c
@@ -113,3 +127,18 @@ module _ (p : ℕ → Bool) where
       go true i (Some d) e l = ap p (sym zero_more) ∙ in_set 0 m d e j i (omega arith)
       go false i None e l = other j i ∙ h j l
       go false i (Some d) e l = other j i ∙ h j (omega arith)
+
+-- the lowest of a set, if it was found
+pub lowest_is : (m : List Bool) (q : ℕ) → Some q ≡ lowest_in m → lowest m ≡ q
+lowest_is m q = go (any m)
+  where
+    go : (t : Bool) → Some q ≡ cond t (Some (lowest m)) None → lowest m ≡ q
+    go true e = sym (some_same q (lowest m) e)
+    go false e = not_none q (sym e)
+
+pub lowest_none : (m : List Bool) → None ≡ lowest_in m → any m ≡ false
+lowest_none m = go (any m)
+  where
+    go : (t : Bool) → None ≡ cond t (Some (lowest m)) None → t ≡ false
+    go true e = not_none (lowest m) e
+    go false e = refl

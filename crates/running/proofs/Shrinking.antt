@@ -1,7 +1,8 @@
 -- Calls leave nothing erased that was not, so a generator that has a qubit that is not erased stays one.
-use Rattle.std.proofs.Common.{◌≡◌, ℕ, ◌<◌, Bool, true, false, cond, not, ◌&&◌, List, [], ◌∷◌, length, Ok, Err, Result, sym, refl, ap, ◌∙◌}
+use Rattle.std.proofs.Common.{◌≡◌, ℕ, ◌≤◌, Bool, true, false, cond, not, ◌&&◌, List, [], ◌∷◌, length, Some, None, Option, sym, refl, ap, ◌∙◌}
 use Rattle.std.proofs.lemmas.Bool.{and_parts, and_from, false_from_ne_true}
 use Rattle.terms.specs.declared.refusal.Refusal.{Refusal}
+use Rattle.std.proofs.lemmas.List.{get_or_past}
 use Rattle.sets.specs.Sets.{has, row, any, within, less}
 use Rattle.sets.proofs.Bits.{clash}
 use Rattle.sets.proofs.Sets.{has_less, within_length, within_has, has_within}
@@ -15,6 +16,7 @@ use Rattle.rules.specs.Moves.{solve_from, sweep_from, connects}
 use Rattle.rules.specs.Run.{all_erased}
 use Rattle.rules.proofs.Bars.{guarded}
 use Rattle.running.specs.Finding.{NoneBelow}
+use Rattle.running.specs.Solving.{solve_at}
 
 module _ (M : Meaning) (s : State) where
   -- what is erased in t was erased
@@ -59,3 +61,11 @@ module _ (M : Meaning) (s : State) where
 
   pub idle_below : (t : State) → Shrunk t → length t.erased ≡ length s.erased → (k : ℕ) → NoneBelow (all_erased M s) k → NoneBelow (all_erased M t) k
   idle_below t h long k below j l = still_idle t h long j (below j l)
+
+  -- no generator's number, nothing to prune by
+  pub idle_past : (j : ℕ) → length M.generators ≤ j → all_erased M s j ≡ false
+  idle_past j h = ap (λ r. any r && within r s.erased) (get_or_past M.generators j [] h)
+
+  pub solve_at_shrinks : (slip : ℕ) (scratch : List ℕ) (o : Option ℕ) → Shrunk (solve_at M s slip scratch o).1
+  solve_at_shrinks slip scratch None = same
+  solve_at_shrinks slip scratch (Some q) = solve_shrinks slip q scratch

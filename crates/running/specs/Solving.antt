@@ -1,5 +1,5 @@
 -- Solving at the lowest qubit that a solve is not refused at with 24 or 25.
-use Rattle.std.specs.Prelude.{ℕ, List, Some, None, Ok, Err, Option, Result}
+use Rattle.std.specs.Prelude.{ℕ, Bool, true, false, List, Some, None, Ok, Err, Option, Result}
 use Rattle.std.specs.List.{find, range_with_len}
 use Rattle.terms.specs.declared.refusal.Refusal.{Refusal}
 use Rattle.meaning.specs.Meaning.{Meaning, qubits}
@@ -12,6 +12,12 @@ use Rattle.rules.specs.Run.{can_solve}
 abbrev pub of_some : Result Cluster Refusal → Result (Option Cluster) Refusal
 of_some (Ok c) = Ok (Some c)
 of_some (Err r) = Err r
+
+-- whether there was none
+abbrev pub found_nothing : Result (Option Cluster) Refusal → Bool
+found_nothing (Ok None) = true
+found_nothing (Ok (Some c)) = false
+found_nothing (Err r) = false
 
 -- a solve at the qubit that was found, if one was
 abbrev pub solve_at : Meaning → State → ℕ → List ℕ → Option ℕ → Result (Option Cluster) Refusal × State × List ℕ

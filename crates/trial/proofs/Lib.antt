@@ -6,4 +6,4 @@ pub mod Closes
 pub mod Opens
 pub mod Sweeps
 pub mod Settles
-pub mod Finds
+pub mod Searched

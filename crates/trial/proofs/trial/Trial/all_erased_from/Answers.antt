@@ -9,7 +9,7 @@ use Rattle.upkeep.specs.Rows.{all_in}
 use Rattle.upkeep.specs.Statuses.{erased_of}
 use Rattle.trial.specs.Standing.{Standing}
 use Rattle.trial.proofs.Done.{code}
-use Rattle.trial.proofs.Finds.{all_after, wanted}
+use Rattle.trial.proofs.Searched.{all_after, wanted}
 use Rattle.trial.proofs.trial.Trial.all_erased_from.Goals as goal
 
 pub generators-preserved-then-is_empty : goal.generators-preserved-then-is_empty

@@ -8,7 +8,7 @@ use Rattle.sets.specs.Sets.{row}
 use Rattle.table.specs.OfTable.{told_of}
 use Rattle.trial.specs.Standing.{Standing}
 use Rattle.trial.proofs.Done.{code}
-use Rattle.trial.proofs.Finds.{told_names, least_lowest}
+use Rattle.trial.proofs.Searched.{told_names, least_lowest}
 use Rattle.trial.proofs.trial.Trial.lowest_of.Goals as goal
 
 unmapped : (o : Option ℕ) → o ≡ option_map (λ x. x) o

@@ -1,5 +1,5 @@
 -- Qubits that are done: what then stands on the board, and that there is room to count them.
-use Rattle.std.proofs.Common.{◌≡◌, ℕ, ◌+◌, ◌<◌, ◌≤◌, Bool, true, false, cond, not, List, [], length, map, set, vec_items, sym, ap, ◌∙◌, arith, refl}
+use Rattle.std.proofs.Common.{◌≡◌, ℕ, ◌+◌, ◌<◌, ◌≤◌, Bool, true, false, cond, not, List, [], length, map, set, vec_items, sym, ap, ◌∙◌, subst, arith, refl}
 use mathlib.Core.Bool.{beq}
 use Rattle.std.proofs.lemmas.List.{length-map, map-set, set-get_or}
 use Rattle.sets.specs.Sets.{has, only}
@@ -13,9 +13,10 @@ use Rattle.table.specs.OfTable.{meaning_of}
 use Rattle.upkeep.specs.Changed.{changed, turned}
 use Rattle.upkeep.specs.Statuses.{is_erased, is_shelved}
 use Rattle.upkeep.proofs.Holders.{holders_once, holders_named}
+use Rattle.shelf.specs.Shelving.{Shelving}
 use Rattle.upkeep.proofs.Finish.{Long, finish_one, total, room_for_one}
 use Rattle.table.specs.declared.Table.{Table}
-use Rattle.trial.specs.Standing.{Standing, Sized}
+use Rattle.trial.specs.Standing.{Standing, Sized, Equipped}
 use Rattle.trial.specs.Seen.{standing_of}
 use Rattle.trial.specs.declared.trial.Trial.TheInside.{Inside}
 use Rattle.trial.specs.Boards.{placed, on_board, one_done}
@@ -85,7 +86,12 @@ still_sized t b k z same done =
       closed = t.sized.closed ∙ ap (λ (x : Table). length (meaning_of x).checks) (sym same);
       odds = b.odds;
       few = omega (arith, ap total done, t.sized.few, size_less (standing_of t).state.erased k, n);
+      waiting = t.sized.waiting;
     }
+
+-- the same memory serves on the same table, with a list that has as much room
+pub still_equipped : (t u : Table) (n m : ℕ) (v : Shelving) (w y : Table) → u ≡ t → m ≡ n → y ≡ w → Equipped t n v w → Equipped u m v y
+still_equipped t u n m v w y same room goes e = subst (λ (x : Table). Equipped x m v y) (sym same) (subst (λ (k : ℕ). Equipped t k v y) (sym room) (subst (λ (x : Table). Equipped t n v x) (sym goes) e))
 
 -- an erased qubit that is done leaves room to count it
 pub room : (t u : Standing) (q : ℕ) (z : List Bool) → q < qubits (code t) → has t.state.erased q ≡ true → u.state ≡ finish (code t) (only (qubits (code t)) q) z t.state → u.table ≡ t.table

@@ -7,3 +7,7 @@ pub mod Opens
 pub mod Sweeps
 pub mod Settles
 pub mod Searched
+pub mod Shelves
+pub mod Clusters
+pub mod Puts
+pub mod Solves

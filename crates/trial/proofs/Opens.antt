@@ -20,7 +20,8 @@ use Rattle.upkeep.specs.Statuses.{is_erased, is_shelved, erased_of}
 use Rattle.upkeep.proofs.Changed.{length_changed}
 use Rattle.upkeep.proofs.Faults.{fault_some, fault_none}
 use Rattle.upkeep.proofs.Opened.{is_opening}
-use Rattle.trial.specs.Standing.{Sized, state_of}
+use Rattle.trial.specs.Standing.{Sized, Equipped, state_of}
+use Rattle.shelf.specs.Shelving.{Shelving}
 use Rattle.trial.specs.Opening.{Opens}
 use Rattle.trial.specs.declared.trial.erasing.Erasures.{Erasures}
 
@@ -83,5 +84,15 @@ module _ (t : Table) (lost odds : List ℕ) (number : ℕ) (e : Erasures) (flipp
         closed = ap length is-closed ∙ length-replicate m false;
         odds = ap length is_odd ∙ length_changed false (λ _. true) odds (replicate m false) ∙ length-replicate m false;
         few = omega (arith, statuses_few n lost (vec_items e.status) is_lost, ap shelf_size is-none);
+        waiting = omega (arith, ap length is-none);
       } in
       subst (λ (x : Table). Sized (meaning_of x) state) (sym same) all
+
+-- and its memory
+abbrev pub empty_shelf : Table → Shelving
+empty_shelf t = record { entries = []; qubits = qubits (meaning_of t); checks = length (meaning_of t).checks }
+
+pub is_equipped : (t : Table) (n : ℕ) (v : Shelving) (w : Table) → qubits (meaning_of t) ≤ n → v ≡ empty_shelf t → w ≡ t → Equipped t n v w
+is_equipped t n v w room none walks =
+    subst (λ (x : Shelving). Equipped t n x w) (sym none)
+    (record { list = room; members = refl; entries = refl; told = λ e m. absurd m; walks = walks })

@@ -6,3 +6,4 @@ pub mod Closing
 pub mod Viewed
 pub mod Boards
 pub mod Solving
+pub mod Clusters

@@ -12,7 +12,8 @@ use Rattle.upkeep.specs.Counts.{shelf_size}
 use Rattle.upkeep.specs.Statuses.{erased_of, shelved_of}
 
 -- what is true of every trial: there is a mark for each qubit and each check of the code;
--- and the counts, the erased qubits and the members of the shelf come to no more than the qubits, so that no count overflows
+-- the counts, the erased qubits and the members of the shelf come to no more than the qubits, so that no count overflows;
+-- and the shelf's entries are no more than the closed checks, so that there is room for one more while a check is open
 pub record Sized (M : Meaning) (s : State) : Type 0 where
   pub erased : length s.erased ≡ qubits M
   pub shelved : length s.shelved ≡ qubits M
@@ -20,6 +21,7 @@ pub record Sized (M : Meaning) (s : State) : Type 0 where
   pub closed : length s.closed ≡ length M.checks
   pub odds : length s.odds ≡ length M.checks
   pub few : s.peeled + s.pruned + s.chosen + size s.erased + shelf_size s.shelf ≤ qubits M
+  pub waiting : length s.shelf ≤ size s.closed
 
 -- what a contract sees of a trial
 pub record Standing : Type 0 where
@@ -51,3 +53,11 @@ Told n checks l = (e : ToldEntry) → In e l → (elements (marks n e.members) �
 -- what is on the shelf, as the rules have it
 abbrev pub shelf_of : Shelving → List Entry
 shelf_of v = entries_of v.qubits v.entries
+
+-- the memory of a trial on the code of t: room to list so many qubits, all of them at least; the shelf of that code; and walks over it
+pub record Equipped (t : Table) (listed : ℕ) (shelf : Shelving) (walked : Table) : Type 0 where
+  pub list : qubits (meaning_of t) ≤ listed
+  pub members : shelf.qubits ≡ qubits (meaning_of t)
+  pub entries : shelf.checks ≡ length (meaning_of t).checks
+  pub told : Told shelf.qubits (length (meaning_of t).checks) shelf.entries
+  pub walks : walked ≡ t

@@ -1,23 +1,26 @@
 //! A trial.
-ghost use Rattle.std.specs.Prelude.{◌≡◌, ◌≤◌, length, vec_capacity};
-ghost use Rattle.meaning.specs.Meaning.{qubits};
+ghost use Rattle.std.specs.Prelude.{vec_capacity};
 ghost use Rattle.table.specs.OfTable.{meaning_of};
-ghost use Rattle.trial.specs.Standing.{Sized, Told, shelf_of, state_of};
+ghost use Rattle.trial.specs.Standing.{Sized, Equipped, shelf_of, state_of};
 
 use crate::trial::board::Board;
 use shelf::Shelf;
 use std::marker::Model;
 use systems::System;
+use walking::walker::Walker;
 
 mod board;
 pub mod closing;
+pub mod clustering;
 mod erasing;
+mod finding;
 mod finishing;
 pub mod opening;
 mod peeling;
 mod pruning;
 pub mod searching;
 mod settling;
+mod shelving;
 mod solving;
 mod sweeping;
 pub mod viewing;
@@ -33,14 +36,13 @@ pub struct Trial<'t> {
     peeled: u16,
     pruned: u16,
     chosen: u16,
+    walker: Walker<'t>,
     system: System,
     /// Where qubits are listed that a system is to be over.
     listed: Vec<u16>,
     shelf: Shelf,
     ghost sized: { Sized (meaning_of board.erasures.table.now) (state_of board.erasures.status.items board.flipped.items closed.items board.odd.items (shelf_of shelf) void number peeled pruned chosen) },
-    ghost room: { qubits (meaning_of board.erasures.table.now) ≤ vec_capacity listed },
-    ghost shelved: { shelf.qubits ≡ qubits (meaning_of board.erasures.table.now) },
-    ghost told: { Told shelf.qubits (length closed.items) shelf.entries },
+    ghost equipped: { Equipped board.erasures.table.now (vec_capacity listed) shelf walker.table },
 }
 
 impl<'t> Model for Trial<'t> {

@@ -1,21 +1,25 @@
 -- Scratch bytes that have no fault.
-use Rattle.std.proofs.Common.{◌≡◌, ℕ, zero, suc, ◌≤◌, ◌<◌, true, false, not, eqb, ltb, List, [], ◌∷◌, length, get_or, take, Some, None, Option, is_ok, is_some, refl, ap, true≢false, arith, ltb-true, ltb-false, eqb-true}
+use Rattle.std.proofs.Common.{◌≡◌, ℕ, zero, suc, ◌≤◌, ◌<◌, false, not, eqb, ltb, List, [], ◌∷◌, length, get_or, take, Some, None, Ok, Option, refl, ap, arith, ltb-true, ltb-false, eqb-true}
 use Rattle.std.proofs.lemmas.Bool.{false_from_ne_true, and_parts, or_parts, not-false}
 use Rattle.terms.proofs.Answering.{test_fails}
 use Rattle.terms.specs.Answering.{checked}
 use Rattle.terms.specs.declared.refusal.Refusal.{Refusal}
 use Rattle.terms.specs.declared.refusal.Refusal.TheVariants.{BufferTooShort, ScratchNotZero}
-use Rattle.rules.specs.Refusing.{some_nonzero}
+use Rattle.meaning.specs.Meaning.{Meaning, qubits}
+use Rattle.rules.specs.Refusing.{some_nonzero, too_short, in_use}
 use Rattle.marks.specs.Marks.{scratch_fault, is_marked}
 use Rattle.sets.proofs.Bits.{clash}
 
 -- a look for faults that found none
-pub no_fault : (o : Option Refusal) → true ≡ is_ok (checked o) → o ≡ None
-no_fault None e = refl
-no_fault (Some f) e = absurd (true≢false e)
+pub no_fault : (u : Unit {0}) (o : Option Refusal) → Ok u ≡ checked o → o ≡ None
+no_fault u None e = refl
+no_fault u (Some f) e = grind arith
 
-pub faultless : (o : Option Refusal) → o ≡ None → not (is_some o) ≡ true
-faultless o e = ap (λ x. not (is_some x)) e
+-- no bar of a scratch buffer holds
+pub lent_clear : (M : Meaning) (bytes : List ℕ) → scratch_fault (qubits M) bytes ≡ None → ((too_short M bytes).holds ≡ false) × ((in_use M bytes).holds ≡ false)
+lent_clear M bytes h =
+    let a = test_fails (ltb (length bytes) (qubits M)) BufferTooShort _ h in
+    (a.0, (test_fails (some_nonzero (take (qubits M) bytes)) ScratchNotZero None a.1).0)
 
 pub long_enough : (n : ℕ) (bytes : List ℕ) → scratch_fault n bytes ≡ None → n ≤ length bytes
 long_enough n bytes h = ltb-false (length bytes) n (test_fails (ltb (length bytes) n) BufferTooShort _ h).0

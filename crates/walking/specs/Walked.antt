@@ -1,13 +1,15 @@
 -- What a walk answers, and what is then told.
-use Rattle.std.specs.Prelude.{ℕ, Bool, cond, not, ◌&&◌, ◌==◌, List, length, Some, None, Option, is_some}
+use Rattle.std.specs.Prelude.{ℕ, Bool, not, ◌&&◌, ◌==◌, List, [], ◌∷◌, length, Ok, Result}
+use Rattle.terms.specs.declared.refusal.Refusal.{Refusal}
+use Rattle.terms.specs.declared.refusal.Refusal.TheVariants.{NothingErased}
 use Rattle.sets.specs.Sets.{has, elements}
 use Rattle.meaning.specs.Meaning.{Meaning, qubits}
+use Rattle.rules.specs.Refusing.{Bar, bar, unless, too_short, in_use}
 use Rattle.rules.specs.Clusters.{cluster, connecting, internal}
 use Rattle.rules.specs.declared.answers.Status.{Status}
 use Rattle.table.specs.OfTable.{meaning_of}
 use Rattle.table.specs.declared.Table.{Table}
 use Rattle.upkeep.specs.Statuses.{erased_of}
-use Rattle.marks.specs.Marks.{scratch_fault}
 use Rattle.walking.specs.Found.{told}
 use Rattle.walking.specs.Seen.{seen}
 use Rattle.walking.specs.declared.found.Connecting.{Connecting}
@@ -22,14 +24,14 @@ pub record Findings : Type 0 where
 abbrev pub suits : Meaning → List Status → List Bool → ℕ → Bool
 suits M status closed q = (length status == qubits M) && (length closed == length M.checks) && has (erased_of status) q
 
--- whether a walk from q is answered
-abbrev pub answers : Meaning → List Status → List Bool → ℕ → List ℕ → Bool
-answers M status closed q scratch = suits M status closed q && not (is_some (scratch_fault (qubits M) scratch))
+-- why a walk from q is refused, if it is
+abbrev pub walk_bars : Meaning → List Status → List Bool → ℕ → List ℕ → List Bar
+walk_bars M status closed q scratch = too_short M scratch ∷ in_use M scratch ∷ bar (not (suits M status closed q)) NothingErased ∷ []
 
--- the cluster of q and its internal checks are found, and its connecting checks are told; or there is no answer, and nothing changes
-abbrev pub walked : List Status → List Bool → ℕ → List ℕ → Findings → Option Connecting × Findings
+-- the cluster of q and its internal checks are found, and its connecting checks are told
+abbrev pub walked : List Status → List Bool → ℕ → List ℕ → Findings → Result Connecting Refusal × Findings
 walked status closed q scratch w =
     let M = meaning_of w.table in
     let s = seen (erased_of status) closed in
     let K = cluster M s q in
-    cond (answers M status closed q scratch) (Some (told (connecting M s q K)), record { table = w.table; members = elements K; internal = elements (internal M s q K) }) (None, w)
+    unless (walk_bars M status closed q scratch) w (Ok (told (connecting M s q K)), record { table = w.table; members = elements K; internal = elements (internal M s q K) })

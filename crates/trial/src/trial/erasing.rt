@@ -2,13 +2,13 @@
 ghost use Rattle.std.specs.Prelude.{◌≡◌, ◌<◌, ◌≤◌, ◌==◌, false, length, replicate, IfOk, slice_set, vec_capacity};
 ghost use Rattle.sets.specs.Sets.{row, meet, size, elements};
 ghost use Rattle.meaning.specs.Meaning.{qubits};
-ghost use Rattle.rules.specs.declared.answers.Status.TheVariants.{Erased, Done};
+ghost use Rattle.rules.specs.declared.answers.Status.TheVariants.{Erased, Shelved, Done};
 ghost use Rattle.rules.specs.Calls.{some_outside};
 ghost use Rattle.rules.specs.Reports.{some_past};
 ghost use Rattle.table.specs.OfTable.{meaning_of};
 ghost use Rattle.upkeep.specs.Changed.{changed};
 ghost use Rattle.upkeep.specs.Counts.{counts_in};
-ghost use Rattle.upkeep.specs.Statuses.{erased_of};
+ghost use Rattle.upkeep.specs.Statuses.{is_erased, erased_of};
 
 use marking::changing::{lower, raise};
 use marking::statuses::{all_erased, is_erased};
@@ -91,10 +91,11 @@ impl Erasures<'_> {
         }
     }
 
-    /// A qubit is done, and counts in its checks no more.
-    pub(crate) fn finish(&mut self, qubit: u16)
-        requires { qubit < length self.old.status.items }
-        ensures does { self.new.status.items ≡ slice_set self.old.status.items qubit Done }
+    /// A qubit gets a status other than erased, and counts in its checks no more.
+    pub(crate) fn take_out(&mut self, qubit: u16, status: Status)
+        requires low { qubit < length self.old.status.items }
+        requires out { is_erased status ≡ false }
+        ensures does { self.new.status.items ≡ slice_set self.old.status.items qubit status }
         ensures table { self.new.table.now ≡ self.old.table.now }
     {
         let q = qubit as usize;
@@ -104,7 +105,18 @@ impl Erasures<'_> {
             &[]
         };
         lower(counted, self.held.as_mut_slice());
-        self.status[q] = Status::Done;
+        self.status[q] = status;
+    }
+
+    /// The listed qubits are shelved.
+    pub(crate) fn shelve_each(&mut self, list: &[u16])
+        requires { some_past (qubits (meaning_of self.old.table.now)) list.now ≡ false }
+        ensures does { self.new.status.items ≡ changed Done (λ _. Shelved) list.now self.old.status.items }
+        ensures table { self.new.table.now ≡ self.old.table.now }
+    {
+        for q in list {
+            self.take_out(*q, Status::Shelved);
+        }
     }
 
     /// A qubit is erased, and counts in its checks from then on.

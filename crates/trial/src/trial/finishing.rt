@@ -12,6 +12,7 @@ ghost use Rattle.trial.specs.Boards.{on_board, one_done};
 use super::Trial;
 use super::board::Board;
 use marking::changing::turn;
+use rules::answers::Status;
 
 impl Board<'_> {
     /// The qubit is done, and flipped first if so asked.
@@ -28,7 +29,7 @@ impl Board<'_> {
         };
         turn(odd, self.odd.as_mut_slice());
         self.flipped[qubit as usize] ^= flip;
-        self.erasures.finish(qubit);
+        self.erasures.take_out(qubit, Status::Done);
     }
 
     /// The qubits of a rising list are done, those first flipped at whose places `flips` has true.

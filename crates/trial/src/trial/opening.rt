@@ -20,6 +20,7 @@ use std::alloc::{AllocError, Global};
 use systems::System;
 use table::Table;
 use terms::refusal::Refusal;
+use walking::walker::Walker;
 
 /// What an accepted opening hands out.
 pub struct Opened<'t> {
@@ -62,6 +63,7 @@ fn begin<'t>(
     let flipped = vec![in heap; false; table.qubits() as usize]?;
     let closed = vec![in heap; false; table.checks() as usize]?;
     let odd = marked_marks(heap, table.checks() as usize, report.odd)?;
+    let walker = Walker::new(heap, table)?;
     let system = System::new(heap)?;
     let listed = Vec::with_capacity(heap, table.qubits() as usize)?;
     let shelf = Shelf::new(heap, table.qubits(), table.checks())?;
@@ -78,6 +80,7 @@ fn begin<'t>(
         peeled: 0,
         pruned: 0,
         chosen: 0,
+        walker,
         system,
         listed,
         shelf,

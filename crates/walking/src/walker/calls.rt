@@ -14,6 +14,7 @@ use marks::{Marks, scratch_fault};
 use rules::answers::Status;
 use std::alloc::{AllocError, Global};
 use table::Table;
+use terms::refusal::Refusal;
 
 impl<'t> Walker<'t> {
     /// Takes all memory that walks over this code need; no later call allocates.
@@ -35,23 +36,23 @@ impl<'t> Walker<'t> {
 
 impl Walker<'_> {
     /// Finds the cluster of an erased qubit and its internal checks, and tells its connecting ones. The scratch bytes, one a qubit, are in the end as
-    /// they were. There is no answer, and nothing changes, where the qubit is not erased, where there is not one status a qubit and one mark a check,
-    /// or where the scratch bytes have a fault.
+    /// they were. Refused, with nothing changed, where the scratch bytes have a fault, and where no qubit `start` of this code is seen to be erased:
+    /// where it is not, or there is not one status a qubit and one mark a check.
     pub fn walk(
         &mut self,
         status: &[Status],
         closed: &[bool],
         start: u16,
         scratch: &mut [u8],
-    ) -> Option<Connecting>
+    ) -> Result<Connecting, Refusal>
         ensures does { (result, self.new) ≡ walked status.now closed.now start scratch.old self.old }
         ensures scratch { scratch.new ≡ scratch.old }
     {
-        if !suits(self.table, status, closed, start) {
-            return None;
-        }
         let qubits = self.table.qubits() as usize;
-        scratch_fault(scratch, qubits).ok()?;
+        scratch_fault(scratch, qubits)?;
+        if !suits(self.table, status, closed, start) {
+            return Err(Refusal::NothingErased);
+        }
         let scene = Scene {
             table: self.table,
             status,
@@ -59,7 +60,7 @@ impl Walker<'_> {
             start,
         };
         let mut marks = Marks::begin(scratch, qubits);
-        Some(find(&scene, &mut self.ground, &mut marks))
+        Ok(find(&scene, &mut self.ground, &mut marks))
     }
 
     /// The qubits of the cluster that was walked last, rising.

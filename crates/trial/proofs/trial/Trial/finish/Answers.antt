@@ -1,19 +1,16 @@
-use Rattle.std.proofs.Common.{cond, sym, ap, ◌∙◌, arith}
-use Rattle.table.specs.OfTable.{meaning_of}
-use Rattle.table.specs.declared.Table.{Table}
+use Rattle.std.proofs.Common.{cond, refl, ap, ◌∙◌}
 use Rattle.sets.specs.Sets.{only, empty}
 use Rattle.meaning.specs.Meaning.{qubits}
 use Rattle.rules.specs.States.{finish}
 use Rattle.trial.specs.Standing.{Standing}
 use Rattle.trial.specs.Seen.{standing_of}
-use Rattle.trial.proofs.Done.{code, still_sized}
+use Rattle.trial.proofs.Done.{code, still_sized, still_equipped}
 use Rattle.trial.proofs.trial.Trial.finish.Goals as goal
 
 pub invariant_of-self-inside : goal.invariant_of-self-inside
 invariant_of-self-inside c =
     let t = c.self.inside in
-    let n = ap (λ (x : Table). qubits (meaning_of x)) c.finish.ensures.table in
-    (still_sized t c.finish.new.self _ _ c.finish.ensures.table (c.finish.ensures.does (standing_of t).state), (omega (arith, t.room, n), (t.shelved ∙ sym n, (t.told, tt))))
+    (still_sized t c.finish.new.self _ _ c.finish.ensures.table (c.finish.ensures.does (standing_of t).state), (still_equipped _ _ _ _ _ _ _ c.finish.ensures.table refl refl t.equipped, tt))
 
 pub returns-clause-does : goal.returns-clause-does
 returns-clause-does c =

@@ -54,7 +54,7 @@ invariant_of-self-inside c =
     let more = room t c.finish.new.self q _ (is_qubit t slip k fine q found) (erased_is t slip k fine q found) c.finish.ensures.does c.finish.ensures.table in
     let left = subst (λ (s : Standing). total s.state + 1 ≤ qubits (code s)) (sym c.self-2.view_is) more in
     let i = c.self-2.inside.sized in
-    (record { erased = i.erased; shelved = i.shelved; flipped = i.flipped; closed = i.closed; odds = i.odds; few = omega (arith, left) }, (c.self-2.inside.room, (c.self-2.inside.shelved, (c.self-2.inside.told, tt))))
+    (record { erased = i.erased; shelved = i.shelved; flipped = i.flipped; closed = i.closed; odds = i.odds; waiting = i.waiting; few = omega (arith, left) }, (c.self-2.inside.equipped, tt))
 
 pub returns-clause-does : goal.returns-clause-does
 returns-clause-does c =

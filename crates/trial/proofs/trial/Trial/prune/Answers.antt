@@ -34,7 +34,7 @@ invariant_of-self-inside c =
     let more = room t c.finish.new.self q _ (is_qubit t slip q l fine) (erased_is t slip q l fine) c.finish.ensures.does c.finish.ensures.table in
     let left = subst (λ (s : Standing). total s.state + 1 ≤ qubits (code s)) (sym c.self.view_is) more in
     let i = c.self.inside.sized in
-    (record { erased = i.erased; shelved = i.shelved; flipped = i.flipped; closed = i.closed; odds = i.odds; few = omega (arith, left) }, (c.self.inside.room, (c.self.inside.shelved, (c.self.inside.told, tt))))
+    (record { erased = i.erased; shelved = i.shelved; flipped = i.flipped; closed = i.closed; odds = i.odds; waiting = i.waiting; few = omega (arith, left) }, (c.self.inside.equipped, tt))
 
 pub returns-clause-does : goal.returns-clause-does
 returns-clause-does c =

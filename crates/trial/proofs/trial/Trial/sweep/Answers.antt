@@ -19,7 +19,7 @@ use Rattle.upkeep.proofs.Every.{room_for_all}
 use Rattle.upkeep.proofs.Finish.{total, with_counts}
 use Rattle.trial.specs.Standing.{Standing}
 use Rattle.trial.specs.Seen.{standing_of}
-use Rattle.trial.proofs.Done.{code, still_sized}
+use Rattle.trial.proofs.Done.{code, still_sized, still_equipped}
 use Rattle.systems.specs.Stated.{least_of}
 use Rattle.systems.specs.Told.{Found, spread}
 use Rattle.trial.proofs.Sweeps.{of_nothing, of_many, of_none, of_wrong, of_right, any_listed, none_listed, none_past, Solved, solved, unsolved, no_slack, chooses}
@@ -107,8 +107,8 @@ invariant_of-self-inside-2 c =
     let done : on_board b s ≡ finish (code x) s.erased z s = c.finish_each.ensures.does s.erased x.sized.erased (h.unknowns ∙ sym c.unknowns.ensures) s in
     let i = still_sized c.self.inside b s.erased z c.finish_each.ensures.table done in
     let n = ap (λ (t : Table). qubits (meaning_of t)) c.finish_each.ensures.table in (
-      record { erased = i.erased; shelved = i.shelved; flipped = i.flipped; closed = i.closed; odds = i.odds; few = omega (arith, room_for_all (code x) s s.erased z c.in-Some.slack refl (λ j e. e) less, ap total done, x.sized.few, n) },
-      (omega (arith, c.self.inside.room, c.list.ensures.capacity, n), (c.self.inside.shelved ∙ sym n, (c.self.inside.told, tt))),
+      record { erased = i.erased; shelved = i.shelved; flipped = i.flipped; closed = i.closed; odds = i.odds; waiting = i.waiting; few = omega (arith, room_for_all (code x) s s.erased z c.in-Some.slack refl (λ j e. e) less, ap total done, x.sized.few, n) },
+      (still_equipped _ _ _ _ _ _ _ c.finish_each.ensures.table c.list.ensures.capacity refl c.self.inside.equipped, tt),
     )
 
 pub returns-clause-does : goal.returns-clause-does

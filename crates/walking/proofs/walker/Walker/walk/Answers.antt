@@ -1,6 +1,7 @@
-use Rattle.std.proofs.Common.{◌≡◌, None, Some, Option, cond, length, drop, is_ok, vec_items, sym, ap, ◌∙◌, rules, arith}
-use Rattle.std.proofs.lemmas.Bool.{and_from}
+use Rattle.std.proofs.Common.{◌≡◌, ℕ, not, None, Ok, Result, length, drop, vec_items, sym, ap, ◌∙◌, rules, arith}
+use Rattle.terms.specs.declared.refusal.Refusal.{Refusal}
 use Rattle.rules.specs.Clusters.{cluster, connecting, internal}
+use Rattle.rules.proofs.Bars.{passed}
 use Rattle.table.specs.OfTable.{meaning_of}
 use Rattle.upkeep.specs.Statuses.{erased_of}
 use Rattle.marks.specs.Marks.{scratch_fault, is_marked, cleared}
@@ -8,15 +9,15 @@ use Rattle.marks.proofs.Restored.{restores}
 use Rattle.sets.specs.Sets.{elements}
 use Rattle.walking.specs.Found.{told}
 use Rattle.walking.specs.Seen.{seen}
-use Rattle.walking.specs.Walked.{Findings, suits, walked}
+use Rattle.walking.specs.Walked.{Findings, suits, walk_bars, walked}
 use Rattle.walking.specs.declared.found.Connecting.{Connecting}
-use Rattle.walking.proofs.Lent.{no_fault, faultless, long_enough, none_marked}
+use Rattle.walking.proofs.Lent.{no_fault, lent_clear, long_enough, none_marked}
 use Rattle.walking.proofs.walker.Walker.walk.Goals as goal
 
 pub find-requires-clause-unmarked : goal.find-requires-clause-unmarked
 find-requires-clause-unmarked c =
     let n = c.qubits-qubits.result in
-    let clean : scratch_fault n c.args.scratch.now ≡ None = no_fault _ (c.in_ok-ok.ensures.variant ∙ ap is_ok c.scratch_fault.ensures) in
+    let clean : scratch_fault n c.args.scratch.now ≡ None = no_fault _ _ c.in_ok-scratch_fault.ensures in
     let began = c.begin-marks.ensures in
     record {
       all = began.size ∙ c.qubits-qubits.ensures;
@@ -26,8 +27,7 @@ find-requires-clause-unmarked c =
 
 pub returns-clause-does : goal.returns-clause-does
 returns-clause-does c =
-    let n = c.qubits-qubits.result in
-    let clean : scratch_fault n c.args.scratch.now ≡ None = no_fault _ (c.in_ok-ok.ensures.variant ∙ ap is_ok c.scratch_fault.ensures) in
+    let clean : scratch_fault c.qubits-qubits.result c.args.scratch.now ≡ None = no_fault _ _ c.in_ok-scratch_fault.ensures in
     let t = c.self.inside.table in
     let M = meaning_of t.now in
     let st = c.args.status.now in
@@ -36,18 +36,19 @@ returns-clause-does c =
     let sc = c.args.scratch.now in
     let s = seen (erased_of st) cl in
     let K = cluster M s q in
-    let yes = and_from (suits M st cl q) _ (sym c.suits.ensures ∙ c.if-not-suits.false) (faultless _ (ap (λ x. scratch_fault x sc) (sym c.qubits-qubits.ensures) ∙ clean)) in
-    let found : Option Connecting × Findings = (Some (told (connecting M s q K)), record { table = t.now; members = elements K; internal = elements (internal M s q K) }) in
+    let lent = lent_clear M sc (ap (λ (n : ℕ). scratch_fault n sc) (sym c.qubits-qubits.ensures) ∙ clean) in
+    let yes : not (suits M st cl q) ≡ _ = ap not (sym c.suits.ensures ∙ c.if-not-suits.false) in
+    let found : Result Connecting Refusal × Findings = (Ok (told (connecting M s q K)), record { table = t.now; members = elements K; internal = elements (internal M s q K) }) in
     let view : Findings = record { table = t.now; members = vec_items c.self.inside.ground.members; internal = vec_items c.self.inside.ground.internal } in
-    let same : ◌≡◌ {A = Option Connecting × Findings} (Some c.find.result, record { table = t.now; members = vec_items c.find.new.ground.members; internal = vec_items c.find.new.ground.internal }) found =
-    (λ i. (Some (c.find.ensures.connecting i), record { table = t.now; members = c.find.ensures.members i; internal = c.find.ensures.internal i })) in
-    same ∙ ap (λ b. cond {A = Option Connecting × Findings} b found (None, view)) (sym yes) ∙ ap (walked st cl q sc) c.self.view_is
+    let same : ◌≡◌ {A = Result Connecting Refusal × Findings} (Ok c.find.result, record { table = t.now; members = vec_items c.find.new.ground.members; internal = vec_items c.find.new.ground.internal }) found =
+    (λ i. (Ok (c.find.ensures.connecting i), record { table = t.now; members = c.find.ensures.members i; internal = c.find.ensures.internal i })) in
+    same ∙ sym (passed (walk_bars M st cl q sc) view found (lent.0, (lent.1, (yes, tt)))) ∙ ap (walked st cl q sc) c.self.view_is
 
 pub returns-clause-scratch : goal.returns-clause-scratch
 returns-clause-scratch c =
     let n = c.qubits-qubits.result in
     let before = c.args.scratch.now in
-    let clean : scratch_fault n before ≡ None = no_fault _ (c.in_ok-ok.ensures.variant ∙ ap is_ok c.scratch_fault.ensures) in
+    let clean : scratch_fault n before ≡ None = no_fault _ _ c.in_ok-scratch_fault.ensures in
     let began = c.begin-marks.ensures in
     let kept = c.find.ensures.same in
     let marked = c.find.new.marks.scratch.now in

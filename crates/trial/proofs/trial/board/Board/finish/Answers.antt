@@ -14,4 +14,4 @@ returns-clause-does c s =
     let flip = c.args.flip in
     let odd : vec_items (with_items b.odd c.turn.new.marks) ≡ cond flip (turned (holders_of (code_of b).checks q) (vec_items b.odd)) (vec_items b.odd) = grind (arith, common_steps, changed_if, with_items_is) in
     let flipped = turned_if (vec_items b.flipped) q flip c.index_mut.result.now (grind (arith, common_steps)) in
-    is_done b _ _ _ q c.requires flip c.finish.ensures.does flipped odd s
+    is_done b _ _ _ q c.requires flip c.take_out.ensures.does flipped odd s

@@ -1,4 +1,4 @@
-use Rattle.std.proofs.Common.{◌≡◌, cond, vec_items, refl, ◌∙◌, arith, length-set}
+use Rattle.std.proofs.Common.{◌≡◌, cond, vec_items, sym, refl, ap, ◌∙◌, arith, length-set}
 use denote.Enum.Bare.{sameb}
 use Rattle.std.specs.Vec.{with_items}
 use Rattle.std.proofs.lemmas.Grind.{common_steps}
@@ -11,8 +11,10 @@ use Rattle.table.specs.OfTable.{meaning_of}
 use Rattle.upkeep.specs.Changed.{lowered}
 use Rattle.upkeep.specs.Statuses.{is_erased}
 use Rattle.upkeep.proofs.Kept.{counts_done}
+use Rattle.upkeep.specs.Counts.{counts_in}
 use Rattle.trial.proofs.Done.{changed_if}
-use Rattle.trial.proofs.trial.erasing.Erasures.finish.Goals as goal
+use Rattle.trial.proofs.Shelves.{out_alike}
+use Rattle.trial.proofs.trial.erasing.Erasures.take_out.Goals as goal
 
 same_erased : (s : Status) → sameb the_type s Erased ≡ is_erased s
 same_erased Erased = refl
@@ -27,6 +29,6 @@ invariant_of-self c =
     let checks = (meaning_of e.table.now).checks in
     let held : vec_items (with_items e.held c.lower.new.counts) ≡ cond (is_erased st) (lowered (holders_of checks q) (vec_items e.held)) (vec_items e.held) = grind (arith, common_steps, same_erased, changed_if, with_items_is) in
     record {
-      fit = length-set (vec_items e.status) q Done ∙ e.fit;
-      counts = held ∙ counts_done (vec_items e.status) q c.requires st c.index.ensures checks (vec_items e.held) e.counts;
+      fit = length-set (vec_items e.status) q c.args.status ∙ e.fit;
+      counts = held ∙ counts_done (vec_items e.status) q c.requires.low st c.index.ensures checks (vec_items e.held) e.counts ∙ ap (counts_in checks) (out_alike (vec_items e.status) q Done c.args.status (sym c.requires.out));
     }

@@ -83,7 +83,7 @@ module _ (M : Meaning) (s : State) where
       go true ih = refl
       go false ih = ih
 
-  found_passes : (slip : ℕ) (k c : List Bool) (f : Bool) (found : List (List Bool)) → passed_over (solve_found M s slip k c f found).0 ≡ false
+  pub found_passes : (slip : ℕ) (k c : List Bool) (f : Bool) (found : List (List Bool)) → passed_over (solve_found M s slip k c f found).0 ≡ false
   found_passes slip k c f [] = refl
   found_passes slip k c true (z ∷ found) = go (not (eqb slip s.number))
     where

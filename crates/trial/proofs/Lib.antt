@@ -11,3 +11,4 @@ pub mod Shelves
 pub mod Clusters
 pub mod Puts
 pub mod Solves
+pub mod Passes

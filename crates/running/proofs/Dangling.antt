@@ -3,7 +3,7 @@ use Rattle.std.proofs.Common.{◌≡◌, ℕ, ◌≤◌, Bool, true, false, cond
 use Rattle.std.proofs.lemmas.Bool.{and_parts, not-false}
 use Rattle.std.proofs.lemmas.List.{get_or_past}
 use Rattle.terms.specs.declared.refusal.Refusal.{Refusal}
-use Rattle.sets.specs.Sets.{has, row, meet, less, only, empty, size, lowest, elements}
+use Rattle.sets.specs.Sets.{has, row, meet, less, only, empty, size, lowest}
 use Rattle.sets.proofs.Bits.{clash}
 use Rattle.sets.proofs.Numbers.{length_elements, elements_same}
 use Rattle.sets.proofs.Sets.{has_meet, has_less, only_other, has_any}

@@ -4,3 +4,4 @@ pub mod Shrinking
 pub mod Passing
 pub mod Turns
 pub mod Staged
+pub mod Numbered

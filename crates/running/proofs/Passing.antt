@@ -12,7 +12,7 @@ use Rattle.rules.specs.declared.answers.Cluster.{Cluster}
 use Rattle.rules.specs.declared.answers.Cluster.TheVariants.{Shelved, Flipped}
 use Rattle.rules.specs.States.{State, shelve}
 use Rattle.rules.specs.Clusters.{other_side, touched, cluster, connecting, internal, free, Touch, Reached, itself, onward}
-use Rattle.rules.specs.Refusing.{Bar, bar, unless, is_void, wrong_slip, too_short, in_use}
+use Rattle.rules.specs.Refusing.{Bar, bar, unless, is_void, too_short, in_use}
 use Rattle.rules.specs.Systems.{solutions}
 use Rattle.rules.specs.Calls.{choose, solve_bars, solve_found, solve_trial, solve}
 use Rattle.rules.specs.Companions.{KeptOrVoid}

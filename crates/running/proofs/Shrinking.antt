@@ -1,15 +1,13 @@
 -- Calls leave nothing erased that was not, so a generator that has a qubit that is not erased stays one.
-use Rattle.std.proofs.Common.{◌≡◌, ℕ, ◌≤◌, Bool, true, false, cond, not, ◌&&◌, List, [], ◌∷◌, length, Some, None, Option, sym, refl, ap, ◌∙◌}
+use Rattle.std.proofs.Common.{◌≡◌, ℕ, ◌≤◌, Bool, true, false, not, ◌&&◌, List, [], ◌∷◌, length, Some, None, Option, sym, ap, ◌∙◌}
 use Rattle.std.proofs.lemmas.Bool.{and_parts, and_from, false_from_ne_true}
-use Rattle.terms.specs.declared.refusal.Refusal.{Refusal}
 use Rattle.std.proofs.lemmas.List.{get_or_past}
 use Rattle.sets.specs.Sets.{has, row, any, within, less}
 use Rattle.sets.proofs.Bits.{clash}
 use Rattle.sets.proofs.Sets.{has_less, within_length, within_has, has_within}
-use Rattle.meaning.specs.Meaning.{Meaning, qubits}
-use Rattle.rules.specs.declared.answers.Cluster.{Cluster}
-use Rattle.rules.specs.States.{Entry, State}
-use Rattle.rules.specs.Clusters.{cluster, connecting, free}
+use Rattle.meaning.specs.Meaning.{Meaning}
+use Rattle.rules.specs.States.{State}
+use Rattle.rules.specs.Clusters.{cluster, free}
 use Rattle.rules.specs.Refusing.{wrong_slip}
 use Rattle.rules.specs.Calls.{peel_bars, prune_bars, solve_bars, sweep_bars, solve_found, sweep_found, peel, prune, solve, sweep}
 use Rattle.rules.specs.Moves.{solve_from, sweep_from, connects}

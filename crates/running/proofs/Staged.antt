@@ -1,6 +1,5 @@
 -- What the stages of a turn do.
-use Rattle.std.proofs.Common.{◌≡◌, ℕ, Bool, true, false, cond, not, eqb, ltb, ◌&&◌, List, [], ◌∷◌, Some, None, Ok, Err, Option, Result, refl, ap, ◌∙◌}
-use mathlib.Core.Option.{none, some}
+use Rattle.std.proofs.Common.{◌≡◌, ℕ, true, false, not, List, Some, None, Ok, Err, Option, Result, refl, ap, ◌∙◌}
 use Rattle.terms.specs.declared.refusal.Refusal.{Refusal}
 use Rattle.sets.proofs.Bits.{clash}
 use Rattle.meaning.specs.Meaning.{Meaning}

@@ -1,6 +1,7 @@
 -- Turn after turn, and settle after settle.
-use Rattle.std.proofs.Common.{◌≡◌, ℕ, zero, suc, ◌+◌, ◌-◌, ◌<◌, Bool, true, false, ◌⊎◌, List, Ok, Err, Result, sym, refl, ap, ◌∙◌, inl, inr, arith}
+use Rattle.std.proofs.Common.{◌≡◌, ℕ, zero, suc, Bool, true, false, List, Ok, Err, Result, sym, refl, ap, ◌∙◌}
 use mathlib.Core.Option.{Option, none, some}
+use Rattle.std.specs.Result.{is_err}
 use Rattle.terms.specs.declared.refusal.Refusal.{Refusal}
 use Rattle.sets.proofs.Bits.{clash}
 use Rattle.meaning.specs.Meaning.{Meaning}
@@ -8,7 +9,7 @@ use Rattle.rules.specs.States.{State}
 use Rattle.rules.specs.Calls.{settle}
 use Rattle.rules.specs.CallLists.{Call, call}
 use Rattle.rules.specs.Companions.{Kept}
-use Rattle.rules.specs.Run.{next, or_else, only_if, turns, settles}
+use Rattle.rules.specs.Run.{next, turns, settles}
 use Rattle.rules.proofs.Bars.{not_ok}
 use Rattle.rules.proofs.Refused.{refusals_keep}
 use Rattle.running.specs.Turning.{taken}
@@ -54,3 +55,7 @@ module _ (M : Meaning) where
   settles_refused zero s t r e = sym (settle_kept s t r e)
   settles_refused (suc n) s t r e =
       ap (settles M n) (sym (ap (λ (x : Result (Unit {0}) Refusal × State). x.1) e) ∙ settle_kept s t r e) ∙ settles_refused n s t r e
+
+  pub settles_end : (n : ℕ) (s t : State) (r : Result (Unit {0}) Refusal) → is_err r ≡ true → (r, t) ≡ settle M s s.number → settles M n s ≡ t
+  settles_end n s t (Ok a) h e = absurd (clash h refl)
+  settles_end n s t (Err r) h e = settles_refused n s t r e

@@ -68,22 +68,22 @@ module _ (M : Meaning) (s : State) (slip q : ℕ) (scratch : List ℕ) where
 pub void_passes : (M : Meaning) (s : State) (slip q : ℕ) (scratch : List ℕ) → s.void ≡ true → passed_over (solve M s slip q scratch).0 ≡ false
 void_passes M s slip q scratch v =
     go (not (ltb q (qubits M))) (ltb (length scratch) (qubits M)) (some_nonzero (take (qubits M) scratch)) s.void v
-    where
-      k : List Bool
-      k = cluster M s q
+  where
+    k : List Bool
+    k = cluster M s q
 
-      c : List Bool
-      c = connecting M s q k
+    c : List Bool
+    c = connecting M s q k
 
-      rest_of : Result Cluster Refusal × State
-      rest_of = unless (drop 4 (solve_bars M s q scratch k c)) s (solve_found M s slip k c (free M s k c) (solutions M.checks k (internal M s q k) s.odds))
+    rest_of : Result Cluster Refusal × State
+    rest_of = unless (drop 4 (solve_bars M s q scratch k c)) s (solve_found M s slip k c (free M s k c) (solutions M.checks k (internal M s q k) s.odds))
 
-      go : (a b d v : Bool) → v ≡ true → passed_over (cond {A = Result Cluster Refusal × State} a (Err QubitTooLarge, s) (cond b (Err BufferTooShort, s) (cond d (Err ScratchNotZero, s) (cond v (Err NoSolution, s) rest_of)))).0 ≡ false
-      go true b d v e = refl
-      go false true d v e = refl
-      go false false true v e = refl
-      go false false false true e = refl
-      go false false false false e = absurd (clash e refl)
+    go : (a b d v : Bool) → v ≡ true → passed_over (cond {A = Result Cluster Refusal × State} a (Err QubitTooLarge, s) (cond b (Err BufferTooShort, s) (cond d (Err ScratchNotZero, s) (cond v (Err NoSolution, s) rest_of)))).0 ≡ false
+    go true b d v e = refl
+    go false true d v e = refl
+    go false false true v e = refl
+    go false false false true e = refl
+    go false false false false e = absurd (clash e refl)
 
 module _ (M : Meaning) (s : State) (scratch : List ℕ) (q : ℕ) where
   pub wanted_here : has s.erased q ≡ true → passed_over (solve M s s.number q scratch).0 ≡ false → can_solve M scratch s q ≡ true

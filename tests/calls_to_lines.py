@@ -1,7 +1,7 @@
 #!/usr/bin/env python3
-"""Turns a file of recorded calls into the lines that the program trial_tests reads, and the lines that it has to write.
+"""Turns files of recorded calls into the lines that the program trial_tests reads, and the lines that it has to write.
 
-Usage: python3 tests/calls_to_lines.py CALLS.json crates/trial_tests/stdin crates/trial_tests/stdout
+Usage: python3 tests/calls_to_lines.py CALLS.json tests/limits.json crates/trial_tests/stdin crates/trial_tests/stdout
 
 What is expected is taken from the recorded answers alone. Names of codes, tallies, trials and slips become numbers, counted
 from 0 inside each sequence; the k-th accepted opening makes trial k and slip k. The steps about codes go first in their sequence, since
@@ -72,6 +72,12 @@ def prune(names, step):
     return ["prune", names.of(step, "trial"), names.of(step, "slip"), step["qubit"], len(generators)] + generators
 
 
+def solve(names, step):
+    used = step["scratch"]["nonzero"]
+    scratch = [step["scratch"]["len"], len(used)] + [n for one in used for n in one]
+    return ["solve", names.of(step, "trial"), names.of(step, "slip"), step["qubit"]] + scratch
+
+
 def sweep(names, step):
     return ["sweep", names.of(step, "trial"), names.of(step, "slip")]
 
@@ -97,6 +103,7 @@ TRIAL_CALLS = {
     "open": opening,
     "peel": peel,
     "prune": prune,
+    "solve": solve,
     "sweep": sweep,
     "settle": settle,
     "copy_out": copy_out,
@@ -126,14 +133,23 @@ def expected(step):
     parts = [answer_of(step)]
     if step["call"] == "copy_out":
         parts.append(words(["bytes"] + step["buffer_after"]))
+    if step["call"] == "solve":
+        # They are afterwards as they were.
+        parts.append(words(["scratch"] + [n for one in step["scratch"]["nonzero"] for n in one]))
     if "after" in step:
         after = step["after"]
         parts.append(words(["counts"] + after["counts"]))
         parts.append("void yes" if after["void"] else "void no")
         parts += [words([kind] + after[kind]) for kind in TRIAL_STATE]
+        parts.append(words(["shelf", len(after["shelf"])] + newest(after["shelf"])))
     if "tally_after" in step:
         parts.append(words(["tally"] + step["tally_after"]))
     return " | ".join(parts)
+
+
+def newest(shelf):
+    """The newest entry, which the record has last."""
+    return ["newest", shelf[-1][0], "with"] + shelf[-1][1] if shelf else []
 
 
 def played(steps):
@@ -176,9 +192,11 @@ def lines_of(steps):
     return given, wanted
 
 
-def main(calls, stdin, stdout):
-    with open(calls) as file:
-        sequences = json.load(file)["sequences"]
+def main(records, stdin, stdout):
+    sequences = []
+    for record in records:
+        with open(record) as file:
+            sequences += json.load(file)["sequences"]
     given, wanted, whole, cut, out, over, off = [], [], 0, 0, 0, 0, 0
     for sequence in sequences:
         steps, passed = played(sequence["steps"])
@@ -200,4 +218,4 @@ def main(calls, stdin, stdout):
 
 
 if __name__ == "__main__":
-    main(*sys.argv[1:4])
+    main(sys.argv[1:-2], *sys.argv[-2:])

@@ -5,14 +5,18 @@ use Rattle.std.proofs.lemmas.Bool.{eqb-false}
 use Rattle.terms.specs.declared.refusal.Refusal.{Refusal}
 use Rattle.terms.specs.declared.refusal.Refusal.TheVariants.{WrongSlip}
 use Rattle.meaning.specs.Meaning.{Meaning}
+use Rattle.sets.specs.Sets.{lowest}
+use Rattle.rules.specs.declared.answers.Cluster.{Cluster}
+use Rattle.rules.specs.declared.answers.Cluster.TheVariants.{Shelved, Flipped}
 use Rattle.rules.specs.declared.answers.Outcome.{Outcome}
 use Rattle.rules.specs.declared.answers.Outcome.TheVariants.{Solved, Nothing, Unfinished}
 use Rattle.rules.specs.declared.answers.Verdict.{Verdict}
 use Rattle.rules.specs.Reports.{report}
-use Rattle.rules.specs.States.{Entry, State, opening, reopen}
-use Rattle.rules.specs.Moves.{sweep_from, settle_from}
+use Rattle.rules.specs.States.{Entry, State, opening, shelve, reopen}
+use Rattle.rules.specs.Clusters.{cluster, free}
+use Rattle.rules.specs.Moves.{solve_from, sweep_from, settle_from, connects}
 use Rattle.rules.specs.Refusing.{wrong_slip}
-use Rattle.rules.specs.Calls.{peel_bars, peel, prune_bars, prune, sweep_bars, sweep_found, sweep, settle_bars, settle_found, settle_newest, settle}
+use Rattle.rules.specs.Calls.{peel_bars, peel, prune_bars, prune, choose, solve_bars, solve_found, solve, sweep_bars, sweep_found, sweep, settle_bars, settle_found, settle_newest, settle}
 use Rattle.rules.specs.Tallies as rules
 use Rattle.rules.specs.Companions.{Kept}
 use Rattle.rules.proofs.Bars.{guarded, accepted, passed, not_ok}
@@ -111,6 +115,22 @@ peel_number M t u slip c r e =
 pub prune_number : (M : Meaning) (t u : Trial) (slip q : ℕ) (l : List ℕ) (r : Result (Unit {0}) Refusal) → ◌≡◌ {A = Result (Unit {0}) Refusal × State} (r, u.state) (prune M t.state slip q l) → u.state.number ≡ t.state.number
 prune_number M t u slip q l r e =
     ap (λ (x : Result (Unit {0}) Refusal × State). x.1.number) e ∙ guarded (prune_bars M t.state slip q l) t.state _ (λ (x : State). x.number ≡ t.state.number) refl (λ _. refl)
+
+solved_number : (M : Meaning) (s : State) (slip : ℕ) (k connects : List Bool) (isFree : Bool) (found : List (List Bool)) → (solve_found M s slip k connects isFree found).1.number ≡ s.number
+solved_number M s slip k connects isFree [] = refl
+solved_number M s slip k connects isFree (z ∷ found) = guarded (wrong_slip s slip ∷ []) s _ (λ (x : State). x.number ≡ s.number) refl (λ _. go isFree)
+  where
+    go : (b : Bool) → ◌≡◌ {A = ℕ} (cond {A = Result Cluster Refusal × State} b (Ok Shelved, shelve k (lowest connects) s) (Ok Flipped, choose M k z (z ∷ found) s)).1.number s.number
+    go true = refl
+    go false = refl
+
+pub solve_number : (M : Meaning) (t u : Trial) (slip q : ℕ) (scratch later : List ℕ) (r : Result Cluster Refusal) → ◌≡◌ {A = Result Cluster Refusal × State × List ℕ} (r, u.state, later) (solve M t.state slip q scratch)
+    → u.state.number ≡ t.state.number
+solve_number M t u slip q scratch later r e =
+    let K = cluster M t.state q in
+    ap (λ (x : Result Cluster Refusal × State × List ℕ). x.1.number) e
+    ∙ guarded (solve_bars M t.state q scratch K (connects M t.state q)) t.state _ (λ (x : State). x.number ≡ t.state.number) refl
+    (λ _. solved_number M t.state slip K (connects M t.state q) (free M t.state K (connects M t.state q)) (solve_from M t.state q))
 
 found_number : (M : Meaning) (s : State) (slip : ℕ) (found : List (List Bool)) → (sweep_found M s slip found).1.number ≡ s.number
 found_number M s slip [] = refl

@@ -4,7 +4,7 @@ ghost use Rattle.trial_tests.specs.Slips.{outs, held};
 
 use crate::calling::{churn_at, open_at};
 use crate::codes::Made;
-use crate::telling::{Answer, Bytes, Counted, State, Told};
+use crate::telling::{Answer, Bytes, Counted, Scratch, State, Told};
 use crate::trials::Trials;
 use played::line::Line;
 use played::numbers::Numbers;
@@ -38,6 +38,7 @@ impl<'t> Bench<'t> {
             "open" => self.open(heap, &mut numbers)?,
             "peel" => self.trials.peel(&mut numbers),
             "prune" => self.trials.prune(heap, &mut numbers)?,
+            "solve" => self.trials.solve(heap, &mut numbers)?,
             "sweep" => self.trials.sweep(&mut numbers),
             "settle" => self.trials.settle(&mut numbers),
             "copy_out" => self.copy_out(heap, &mut numbers)?,
@@ -52,6 +53,9 @@ impl<'t> Bench<'t> {
         rt.print(told.answer)?;
         if let Some(bytes) = &told.bytes {
             rt.print(Bytes(bytes.as_slice()))?;
+        }
+        if let Some(scratch) = &told.scratch {
+            rt.print(Scratch(scratch.as_slice()))?;
         }
         if let Some(place) = told.trial {
             if let Some(trial) = self.trials.get(place) {

@@ -3,7 +3,8 @@ ghost use Rattle.std.specs.Prelude.{◌≡◌, ◌⊎◌, ◌+◌, ◌<◌, leng
 ghost use Rattle.trial_tests.specs.Slips.{out, outs, held_by, OpensOne};
 
 use crate::telling::Answer;
-use std::alloc::Global;
+use played::numbers::Numbers;
+use std::alloc::{AllocError, Global};
 use table::Table;
 use terms::refusal::Refusal;
 use trial::report::Report;
@@ -102,6 +103,20 @@ fn counts_out(tally: &Tally) -> bool
 {
     let counts = tally.counts();
     counts.solved + counts.nothing + counts.unfinished < counts.opened
+}
+
+/// A scratch buffer of a length, zero but at the places of a list of places and bytes.
+pub(crate) fn scratch_of(heap: Global, numbers: &mut Numbers) -> Result<Vec<u8>, AllocError> {
+    let len = numbers.place();
+    let mut scratch = vec![in heap; 0u8; len]?;
+    for _ in 0..numbers.next() {
+        let place = numbers.place();
+        let byte = numbers.byte();
+        if let Some(at) = scratch.get_mut(place) {
+            *at = byte;
+        }
+    }
+    Ok(scratch)
 }
 
 /// Opens with nothing lost and nothing odd, and closes, so many times, on one of the tallies.

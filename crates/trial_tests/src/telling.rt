@@ -1,6 +1,7 @@
 //! What is told of a call, as text.
 use played::refused::Refused;
-use rules::answers::{Outcome, Status, Verdict};
+use rules::answers::{Cluster, Outcome, Status, Verdict};
+use shelf::Shelf;
 use std::fmt;
 use terms::refusal::Refusal;
 use trial::tally::Counts;
@@ -11,6 +12,7 @@ use trial::trial::viewing::View;
 pub(crate) enum Answer {
     Done,
     Number(u32),
+    Solved(Cluster),
     Closed(Verdict),
     Refused(Refusal),
     /// The line names a code, tally, trial or slip that is not there, or the call is not known.
@@ -27,11 +29,22 @@ impl<T: Drop> From<Result<T, Refusal>> for Answer {
     }
 }
 
+impl Answer {
+    pub(crate) fn of_solve(told: Result<Cluster, Refusal>) -> Answer {
+        match told {
+            Ok(cluster) => Answer::Solved(cluster),
+            Err(refusal) => Answer::Refused(refusal),
+        }
+    }
+}
+
 impl fmt::Display for Answer {
     fn fmt<W: fmt::Write>(&self, f: &mut fmt::Formatter<W>) -> fmt::Result {
         match self {
             Answer::Done => f.write_str("ok"),
             Answer::Number(number) => write!(f, "ok {number}"),
+            Answer::Solved(Cluster::Shelved) => f.write_str("ok shelved"),
+            Answer::Solved(Cluster::Flipped) => f.write_str("ok flipped"),
             Answer::Closed(verdict) => {
                 let word = outcome_word(verdict.outcome);
                 let peeled = verdict.peeled;
@@ -77,8 +90,24 @@ impl fmt::Display for State<'_> {
         f.write_str(" | odd")?;
         write_places(f, view.odd, &true)?;
         f.write_str(" | closed")?;
-        write_places(f, view.closed, &true)
+        write_places(f, view.closed, &true)?;
+        write_shelf(f, view.shelf)
     }
+}
+
+/// Writes how many entries the shelf has, and the check and the qubits of the newest.
+fn write_shelf<W: fmt::Write>(f: &mut fmt::Formatter<W>, shelf: &Shelf) -> fmt::Result {
+    let len = shelf.len();
+    write!(f, " | shelf {len}")?;
+    let Some(newest) = shelf.newest() else {
+        return Ok(());
+    };
+    let check = newest.check;
+    write!(f, " newest {check} with")?;
+    for qubit in newest.members {
+        write!(f, " {qubit}")?;
+    }
+    Ok(())
 }
 
 /// Writes the places of a list that hold what is wanted.
@@ -123,11 +152,28 @@ impl fmt::Display for Bytes<'_> {
     }
 }
 
-/// What a call answered, and what is told after it: the bytes of a buffer, the trial and the tally of these numbers.
+/// The bytes of a scratch buffer that are not zero, each after its place.
+#[derive(Drop)]
+pub(crate) struct Scratch<'a>(pub(crate) &'a [u8]);
+
+impl fmt::Display for Scratch<'_> {
+    fn fmt<W: fmt::Write>(&self, f: &mut fmt::Formatter<W>) -> fmt::Result {
+        f.write_str(" | scratch")?;
+        for (place, byte) in self.0.iter().enumerate() {
+            if *byte != 0 {
+                write!(f, " {place} {byte}")?;
+            }
+        }
+        Ok(())
+    }
+}
+
+/// What a call answered, and what is told after it: the bytes of a buffer and of a scratch buffer, the trial and the tally of these numbers.
 #[derive(Drop)]
 pub(crate) struct Told {
     pub(crate) answer: Answer,
     pub(crate) bytes: Option<Vec<u8>>,
+    pub(crate) scratch: Option<Vec<u8>>,
     pub(crate) trial: Option<usize>,
     pub(crate) tally: Option<usize>,
 }
@@ -137,6 +183,7 @@ impl Told {
         Told {
             answer,
             bytes: None,
+            scratch: None,
             trial: None,
             tally: None,
         }

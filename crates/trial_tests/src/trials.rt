@@ -2,7 +2,7 @@
 ghost use Rattle.std.specs.Prelude.{◌≡◌, ◌+◌, ◌<◌, length, OnOk, vec_len, vec_capacity};
 ghost use Rattle.trial_tests.specs.Slips.{outs, held, trial_numbers, Own};
 
-use crate::calling::{close_held, close_somewhere};
+use crate::calling::{close_held, close_somewhere, scratch_of};
 use crate::telling::{Answer, Told};
 use played::numbers::Numbers;
 use std::alloc::{AllocError, Global};
@@ -65,6 +65,25 @@ impl<'t> Trials<'t> {
         let generators = numbers.list(heap)?;
         let answer = Answer::from(trial.prune(slip, qubit, generators.as_slice()));
         Ok(Told::of_trial(answer, place))
+    }
+
+    /// Solves in the trial of one place and shows it the slip of another.
+    pub(crate) fn solve(&mut self, heap: Global, numbers: &mut Numbers) -> Result<Told, AllocError>
+        ensures { self.new.slips.items ≡ self.old.slips.items }
+    {
+        let place = numbers.place();
+        let Some(Some(slip)) = self.slips.get(numbers.place()) else {
+            return Ok(Told::unknown());
+        };
+        let Some(trial) = self.trials.get_mut(place) else {
+            return Ok(Told::unknown());
+        };
+        let qubit = numbers.short();
+        let mut scratch = scratch_of(heap, numbers)?;
+        let answer = Answer::of_solve(trial.solve(slip, qubit, scratch.as_mut_slice()));
+        let mut told = Told::of_trial(answer, place);
+        told.scratch = Some(scratch);
+        Ok(told)
     }
 
     /// Sweeps the trial of one place and shows it the slip of another.

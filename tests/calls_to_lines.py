@@ -149,15 +149,15 @@ def expected(step):
         parts.append(words(["counts"] + after["counts"]))
         parts.append("void yes" if after["void"] else "void no")
         parts += [words([kind] + after[kind]) for kind in TRIAL_STATE]
-        parts.append(words(["shelf", len(after["shelf"])] + newest(after["shelf"])))
+        parts.append(words(["shelf", len(after["shelf"])] + entries(after["shelf"])))
     if "tally_after" in step:
         parts.append(words(["tally"] + step["tally_after"]))
     return " | ".join(parts)
 
 
-def newest(shelf):
-    """The newest entry, which the record has last."""
-    return ["newest", shelf[-1][0], "with"] + shelf[-1][1] if shelf else []
+def entries(shelf):
+    """The entries, the newest first; the record has it last."""
+    return [word for check, qubits in reversed(shelf) for word in ["check", check, "with"] + qubits]
 
 
 def played(steps):

@@ -17,7 +17,7 @@ abbrev pub outside : ℕ → ℕ → Option Refusal
 outside n place = cond (nat_lt place n) None (Some QubitTooLarge)
 
 -- a refused call changes nothing
-abbrev pub KeptIfRefused : {X F : Type 0} → Result X Refusal → Elimination F → Elimination F → Type 0
+abbrev pub KeptIfRefused : {X E : Type 0} → Result X Refusal → E → E → Type 0
 KeptIfRefused (Ok x) e e' = Unit {0}
 KeptIfRefused (Err f) e e' = e' ≡ e
 

@@ -1,7 +1,7 @@
 //! Changes at listed places. A place past the end changes nothing.
-ghost use Rattle.std.specs.Prelude.{◌≡◌};
+ghost use Rattle.std.specs.Prelude.{◌≡◌, None};
 ghost use Rattle.marking.specs.Written.{written};
-ghost use Rattle.upkeep.specs.Changed.{changed, turned, marked, lowered, raised};
+ghost use Rattle.upkeep.specs.Changed.{changed, turned, marked, unmarked, lowered, raised};
 
 use terms::refusal::Refusal;
 
@@ -19,6 +19,13 @@ pub fn mark(places: &[u16], marks: &mut [bool])
     change_each(places, marks, |_| true);
 }
 
+/// Takes the mark at each listed place back.
+pub fn unmark(places: &[u16], marks: &mut [bool])
+    ensures { marks.new ≡ unmarked places.now marks.old }
+{
+    change_each(places, marks, |_| false);
+}
+
 /// Makes the count at each listed place one lower; 0 stays.
 pub fn lower(places: &[u16], counts: &mut [u16])
     ensures { counts.new ≡ lowered places.now counts.old }
@@ -31,6 +38,13 @@ pub fn raise(places: &[u16], counts: &mut [u16])
     ensures { counts.new ≡ raised places.now counts.old }
 {
     change_each(places, counts, |count| count.saturating_add(1));
+}
+
+/// Takes out what stands at each listed place.
+pub fn take_out<T: Copy>(places: &[u16], list: &mut [Option<T>])
+    ensures { list.new ≡ changed None (λ _. None) places.now list.old }
+{
+    change_each(places, list, |_| None);
 }
 
 /// Changes what stands at each listed place.

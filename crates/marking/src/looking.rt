@@ -1,5 +1,6 @@
-//! What is asked of lists of numbers.
+//! What is asked of lists of numbers and of marks.
 ghost use Rattle.std.specs.Prelude.{◌≡◌};
+ghost use Rattle.sets.specs.Sets.{has};
 ghost use Rattle.rules.specs.Reports.{rises, some_past};
 
 /// Whether each number of a list is above the one before it.
@@ -14,4 +15,11 @@ pub fn some_past(limit: u16, list: &[u16]) -> bool
     ensures { result ≡ some_past limit list.now }
 {
     list.iter().any(|k| *k >= limit)
+}
+
+/// Whether a place is marked. One past the end is not.
+pub fn is_marked(place: u16, marks: &[bool]) -> bool
+    ensures { result ≡ has marks.now place }
+{
+    marks.get(usize::from(place)) == Some(&true)
 }

@@ -3,4 +3,5 @@
 
 mod kind;
 mod lines;
+pub mod name;
 pub mod texts;

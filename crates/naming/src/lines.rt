@@ -1,30 +1,14 @@
 //! The lines of the list of names.
-ghost use Rattle.std.specs.Prelude.{◌≡◌, ℕ, ◌*◌, ◌<◌, ◌≤◌, true, [], Some};
+ghost use Rattle.std.specs.Prelude.{◌≡◌, ℕ, ◌*◌, ◌<◌, ◌≤◌, true, Some};
 ghost use Rattle.std.specs.List.{flat_map};
 ghost use Rattle.meaning.specs.Telling.{is_row};
-ghost use Rattle.naming.specs.Lines.{name, told_qubit, qubit_lines, row_of, row_lines};
+ghost use Rattle.naming.specs.Lines.{told_qubit, qubit_lines, row_of, row_lines};
 
 use crate::kind::Kind;
+use crate::name::Name;
 use code::Code;
 use std::fmt;
 use terms::row::Row;
-
-/// A name in the grid beside the stored number.
-#[derive(Drop)]
-struct Name<'a> {
-    word: &'a str,
-    x: u16,
-    y: u16,
-    number: u16,
-}
-
-impl fmt::Display for Name<'_> {
-    ghost output = { λ n. Some (name n.word.now n.x n.y n.number []) };
-
-    fn fmt<W: fmt::Write>(&self, f: &mut fmt::Formatter<W>) -> fmt::Result {
-        write!(f, "{} {} {} | {}", self.word, self.x, self.y, self.number)
-    }
-}
 
 /// The lines of the qubits of one side, which fill a square of the given width.
 #[derive(Drop)]

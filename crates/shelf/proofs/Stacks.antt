@@ -1,9 +1,10 @@
 -- What putting on top and taking off the top do to the entries that are read from memory.
-use Rattle.std.proofs.Common.{◌≡◌, ℕ, ◌+◌, ◌-◌, ◌<◌, ◌≤◌, true, false, ◌&&◌, leb, ltb, List, [], ◌∷◌, ◌++◌, length, take, drop, sym, ap, ap₂, ◌∙◌, arith, length-drop}
-use Rattle.std.specs.Prelude.{sum_by}
+use Rattle.std.proofs.Common.{◌≡◌, ℕ, zero, suc, ◌+◌, ◌-◌, ◌<◌, ◌≤◌, true, false, ◌&&◌, leb, ltb, List, [], ◌∷◌, ◌++◌, Some, None, length, take, drop, sym, ap, ap₂, ◌∙◌, arith, length-drop}
+use Rattle.std.specs.Prelude.{sum_by, slice_get}
+use Rattle.std.proofs.lemmas.Option.{slice_get_past}
 use Rattle.std.proofs.Math.Seq.{take-length, take-add}
-use Rattle.std.proofs.Math.Bool.{and-false}
-use Rattle.std.proofs.lemmas.Bool.{lt-ltb, le-ltb, le-leb, lt-leb}
+use Rattle.std.proofs.Math.Bool.{and-false, and-true}
+use Rattle.std.proofs.lemmas.Bool.{lt-ltb, le-ltb, le-leb, lt-leb, ltb-false}
 use Rattle.std.proofs.lemmas.List.{take-append-le, drop-append-le, length-take-le}
 use Rattle.std.proofs.lemmas.List.Sums.{sum_by-cons, sum_by-append}
 use Rattle.shelf.specs.Shelving.{ToldEntry, Shelving, member_count, has_room, with_entry}
@@ -94,3 +95,34 @@ module _ (records : List Record) (len : ℕ) (members : List ℕ) (filled : ℕ)
   on_top records' len' members' filled' r new n e f m k =
       ap (λ l. shelving l (length members') (length records')) (ap₂ (entries_on []) e f ∙ on_more [] (take len records) r (take filled members) new counted n)
       ∙ ap₂ (shelving (entry r new ∷ entries_on [] (take len records) (take filled members))) m k
+
+-- without the top, what is left is stacked too
+pub stacked_below : (records : List Record) (len below : ℕ) (members : List ℕ) (filled : ℕ) (r : Record) → Stacked records len members filled → take len records ≡ take below records ++ r ∷ [] → below ≤ len
+    → Stacked records below members (filled - r.count) × (r.count ≤ filled)
+stacked_below records len below members filled r s e low =
+    let sums : counts (take below records) + r.count ≡ filled = omega (arith, sum_by-append (λ (r : Record). r.count) (take below records) (r ∷ []), ap counts e, s.counted, counts_cons r []) in (
+      record {
+        records_held = omega (arith, s.records_held, low);
+        members_held = omega (arith, s.members_held);
+        counted = omega (arith, sums);
+        few = s.few;
+      },
+      omega (arith, sums),
+    )
+
+-- where a list goes on with e from the place i
+pub at_place : (i : ℕ) (l : List ToldEntry) (e : ToldEntry) (t : List ToldEntry) → e ∷ t ≡ drop i l → (Some e ≡ slice_get l i) × (t ≡ drop (i + 1) l)
+at_place zero [] e t h = cc
+at_place zero (x ∷ l) e t h = (cc, cc)
+at_place (suc i) [] e t h = cc
+at_place (suc i) (x ∷ l) e t h = let on : suc i + 1 ≡ suc (i + 1) = omega arith in let r = at_place i l e t h in (r.0, r.1 ∙ sym (ap (λ k. drop k (x ∷ l)) on))
+
+pub past_place : (i : ℕ) (l : List ToldEntry) → [] ≡ drop i l → (j : ℕ) → i ≤ j → None ≡ slice_get l j
+past_place i l h j le = sym (slice_get_past l j (omega (arith, ap length h, length-drop i l)))
+
+-- where there is no top, nothing is held
+pub no_top : (records : List Record) (len : ℕ) (members : List ℕ) (filled places : ℕ) → Stacked records len members filled → length records ≡ places → false ≡ (ltb 0 len && leb len places) → [] ≡ entries_on [] (take len records) (take filled members)
+no_top records len members filled places s e t =
+    let held : leb len places ≡ true = le-leb len places (omega (arith, s.records_held, e)) in
+    let low : len ≡ 0 = omega (arith, ltb-false 0 len (sym (t ∙ ap (λ b. ltb 0 len && b) held ∙ and-true (ltb 0 len)))) in
+    ap (λ n. entries_on [] (take n records) (take filled members)) (sym low)

@@ -44,12 +44,24 @@ impl Shelf {
     pub fn newest(&self) -> Option<Entry<'_>>
         ensures { option_map told result ≡ slice_get self.now.entries 0 }
     {
-        // A copy, so that the record is read and not taken.
+        self.get(0)
+    }
+
+    /// The entry that so many newer ones stand on, if there is one. It stays where it is.
+    pub fn get(&self, newer: usize) -> Option<Entry<'_>>
+        ensures { option_map told result ≡ slice_get self.now.entries newer }
+    {
+        // Copies, so that the records are read and not taken.
         let mut height = self.height;
+        let mut end = self.filled;
+        for _ in 0..newer {
+            let top = pop(&self.records, &mut height)?;
+            end -= usize::from(top.count);
+        }
         let top = pop(&self.records, &mut height)?;
-        let start = self.filled - top.count as usize;
+        let start = end - usize::from(top.count);
         Some(Entry {
-            members: &self.members[start..self.filled],
+            members: &self.members[start..end],
             check: top.check,
         })
     }

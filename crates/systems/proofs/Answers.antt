@@ -1,17 +1,18 @@
 -- What an elimination answers for the unknowns alone, in the words of the rules.
-use Rattle.std.proofs.Common.{◌≡◌, ℕ, zero, suc, ◌^◌, ◌<◌, Option, Some, None, Bool, true, false, not, ◌||◌, eqb, List, [], ◌∷◌, map, length, set, replicate, sym, refl, ap, ◌∙◌, subst, inl, inr, true≢false, arith, eqb-true, length-set, get_or-set_same, get_or-set_other}
+use Rattle.std.proofs.Common.{◌≡◌, ℕ, zero, suc, ◌^◌, ◌<◌, ◌≤◌, ◌⊎◌, Option, Some, None, Bool, true, false, not, ◌&&◌, ◌||◌, eqb, List, [], ◌∷◌, map, length, set, replicate, sym, refl, ap, ◌∙◌, subst, inl, inr, true≢false, arith, lt-ltb, eqb-true, length-set, get_or-set_same, get_or-set_other}
 use lib.ListN.{length-map, length-replicate}
-use Rattle.std.proofs.lemmas.Bool.{and_parts, and_from, false_from_ne_true, true_from_ne_false}
+use Rattle.std.proofs.lemmas.Bool.{and_parts, and_from, cases_lt, le-ltb, false_from_ne_true, true_from_ne_false}
 use Rattle.std.specs.Option.{IfNone}
 use borrow.Author.Tests.{eqb-false}
 use Rattle.sets.specs.Bits.{alike}
 use Rattle.sets.specs.Lists.{In}
 use Rattle.sets.specs.Sets.{has, row, odd, size, only, among as listed}
 use Rattle.sets.proofs.Bits.{alike_same, same_alike}
-use Rattle.sets.proofs.Sets.{has_below, only_self, only_other, length_only}
-use Rattle.sets.proofs.Numbers.{in_among}
+use Rattle.sets.proofs.Sets.{has_below, odd_nil, only_self, only_other, length_only}
+use Rattle.sets.proofs.Numbers.{among_in, in_among}
 use Rattle.meaning.specs.Meaning.{Meaning}
 use Rattle.linear.specs.Field.{bits}
+use Rattle.linear.specs.Basis.{dot}
 use Rattle.linear.specs.Compress.{compress}
 use Rattle.linear.specs.System.{keep, solutions as over_unknowns}
 use Rattle.linear.specs.Subsets.{subsets, explains}
@@ -22,8 +23,8 @@ use Rattle.elimination.specs.Calls.{First, Power, Independent}
 use Rattle.rules.specs.Systems.{solutions, log2}
 use Rattle.rules.proofs.Solutions.{slack_pow, in_subsets, of_subsets}
 use Rattle.systems.specs.Stated.{equation}
-use Rattle.systems.specs.Told.{Found, spread, free_beside}
-use Rattle.systems.proofs.Rows.{spread_solutions}
+use Rattle.systems.specs.Told.{Found, spread, further, free_beside}
+use Rattle.systems.proofs.Rows.{no_row, spread_solutions}
 
 -- no solution over the unknowns, no solution
 pub none_spread : (k : List Bool) (found : List (List Bool)) → found ≡ [] → map (spread k) found ≡ []
@@ -112,3 +113,39 @@ module _ (M : Meaning) (k among odds : List Bool) (order : List ℕ) (a : length
           sym (dot_odd (compress bits k (row M.checks c)) x ∙ alike_same (odd (compress bits k (row M.checks c)) x) (has (only (length M.checks) c) c) both.0 ∙ only_self (length M.checks) c low)
           ∙ off x (u.long ∙ length-replicate (size k) true) (explain_zeros M k odds (only (length M.checks) c) order x none_odd both.1)
           )
+
+-- a check that the code does not have holds no unknown
+odd_compress_nil : (k x : List Bool) → odd (compress bits k []) x ≡ false
+odd_compress_nil [] x = odd_nil x
+odd_compress_nil (true ∷ k) [] = refl
+odd_compress_nil (true ∷ k) (y ∷ x) = odd_compress_nil k x
+odd_compress_nil (false ∷ k) x = odd_compress_nil k x
+
+-- what is zero on all checks is zero on each
+zero_on : (M : Meaning) (k odds : List Bool) (order : List ℕ) (x : List Bool) → Zeros bits (map (equation M k odds) order) x → (d : ℕ) → In d order → dot bits (compress bits k (row M.checks d)) x ≡ false
+zero_on M k odds [] x z d m = absurd m
+zero_on M k odds (c ∷ order) x z d (inl e) = ap (λ n. dot bits (compress bits k (row M.checks n)) x) e ∙ z.0
+zero_on M k odds (c ∷ order) x z d (inr m) = zero_on M k odds order x z.1 d m
+
+-- the answer for every number, one of the checks added and one that is no check's too
+pub free_answer : (M : Meaning) (k among odds : List Bool) (order : List ℕ) → length among ≡ length M.checks → ((d : ℕ) → d < length M.checks → listed d order ≡ has among d) → (c : ℕ) (r : Bool) → Independent bits (size k) (map (equation M k odds) order) (compress bits k (row M.checks c)) r → r ≡ (further M among c && free_beside M k among c)
+free_answer M k among odds order a named c r i = go (cases_lt c (length M.checks))
+  where
+    -- where each vector that is zero on the checks added is zero on c
+    none : ((x : List Bool) → Zeros bits (map (equation M k odds) order) x → dot bits (compress bits k (row M.checks c)) x ≡ false) → r ≡ false
+    none nil = by r i
+      where
+        by : (r : Bool) → Independent bits (size k) (map (equation M k odds) order) (compress bits k (row M.checks c)) r → r ≡ false
+        by true (x, long, zeros, off) = absurd (off (nil x zeros))
+        by false off = refl
+
+    at : (b : Bool) → has among c ≡ b → c < length M.checks → r ≡ (not b && free_beside M k among c)
+    at true e low = none (λ x z. zero_on M k odds order x z c (among_in c order (named c low ∙ e)))
+    at false e low = free_is M k among odds order a named c e low r i
+
+    go : (c < length M.checks) ⊎ (length M.checks ≤ c) → r ≡ (further M among c && free_beside M k among c)
+    go (inl low) = at (has among c) refl low ∙ ap (λ b. (b && not (has among c)) && free_beside M k among c) (sym (lt-ltb c (length M.checks) low))
+    go (inr high) =
+        let p : length M.checks < suc c = omega arith in
+        none (λ x z. dot_odd (compress bits k (row M.checks c)) x ∙ ap (λ l. odd (compress bits k l) x) (no_row M.checks c p) ∙ odd_compress_nil k x)
+        ∙ ap (λ b. (b && not (has among c)) && free_beside M k among c) (sym (le-ltb c (length M.checks) high))

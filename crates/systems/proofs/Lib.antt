@@ -4,5 +4,6 @@ pub mod Rows
 pub mod Answers
 pub mod Begun
 pub mod Searching
-pub mod Held
+pub mod Touched
+pub mod Standing
 pub mod Reading

@@ -62,10 +62,14 @@ not_before (x ∷ l) (suc j) once h =
     go true e ih h' = absurd (once.0 (subst (λ (n : ℕ). In n l) (eqb-true (get_or l j 0) x e) (in_get_or l j 0 h')))
     go false e ih h' = ih
 
+-- with one number more of a list
+pub among_taken : (l : List ℕ) (j : ℕ) → j < length l → (e : ℕ) → among e (take (j + 1) l) ≡ (among e (take j l) || eqb e (get_or l j 0))
+among_taken l j h e = ap (among e) (take_more l j 0 h) ∙ among_more (take j l) (get_or l j 0) e
+
 -- with the next qubit
 module _ (k : List Bool) (l : List ℕ) (j : ℕ) (once : Distinct l) (h : j < length l) where
   among_next : (e : ℕ) → among e (take (j + 1) l) ≡ (among e (take j l) || eqb e (get_or l j 0))
-  among_next e = ap (among e) (take_more l j 0 h) ∙ among_more (take j l) (get_or l j 0) e
+  among_next = among_taken l j h
 
   at_next : among (get_or l j 0) (take (j + 1) l) ≡ true
   at_next = among_next (get_or l j 0) ∙ ap₂ (λ a b. a || b) (not_before l j once h) (eqb_same (get_or l j 0))

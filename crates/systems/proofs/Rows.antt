@@ -40,7 +40,7 @@ module _ (M : Meaning) (odds x : List Bool) where
   in_order [] h = refl
   in_order (c ∷ order) h = and_from _ _ (same_alike (odd (row M.checks c) x) (has odds c) (h c (inl refl))) (in_order order (λ d m. h d (inr m)))
 
-same_from : (a b : Bool) → (a ≡ true → b ≡ true) → (b ≡ true → a ≡ true) → a ≡ b
+pub same_from : (a b : Bool) → (a ≡ true → b ≡ true) → (b ≡ true → a ≡ true) → a ≡ b
 same_from true b f g = sym (f refl)
 same_from false true f g = g refl
 same_from false false f g = refl

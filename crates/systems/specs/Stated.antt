@@ -1,6 +1,5 @@
 -- Which system of a code has been stated.
-use Rattle.std.specs.Prelude.{◌≡◌, ℕ, ◌<◌, Bool, false, List, map, length, take, replicate, Ok, Err, Result, vec_items}
-use Rattle.terms.specs.declared.refusal.Refusal.{Refusal}
+use Rattle.std.specs.Prelude.{◌≡◌, ℕ, ◌<◌, Bool, false, List, map, length, take, replicate, vec_items}
 use Rattle.sets.specs.Sets.{has, row, size, elements, among as listed}
 use Rattle.meaning.specs.Meaning.{Meaning}
 use Rattle.linear.specs.Field.{bits}
@@ -34,8 +33,3 @@ pub record Stated (e : System) (M : Meaning) (k among odds : List Bool) : Type 0
 -- of every system that has been stated to e, of whichever code
 abbrev pub WhereStated : System → (Meaning → List Bool → List Bool → List Bool → Type 0) → Type 0
 WhereStated e P = (M : Meaning) (k among odds : List Bool) → Stated e M k among odds → P M k among odds
-
--- a refused call changes nothing
-abbrev pub KeptIfRefused : {X : Type 0} → Result X Refusal → System → System → Type 0
-KeptIfRefused (Ok x) e e' = Unit {0}
-KeptIfRefused (Err f) e e' = e' ≡ e

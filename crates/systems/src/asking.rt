@@ -1,15 +1,15 @@
 //! What a system answers.
-ghost use Rattle.std.specs.Prelude.{◌≡◌, ◌≤◌, ◌<◌, Bool, true, false, List, length, Err, IfOk, IfSome, IfNone};
+ghost use Rattle.std.specs.Prelude.{◌≡◌, ◌≤◌, Bool, false, ◌&&◌, List, length, Err, IfOk, IfSome, IfNone};
 ghost use Rattle.terms.specs.Answering.{Answers};
 ghost use Rattle.terms.specs.declared.refusal.Refusal.TheVariants.{NotRising};
-ghost use Rattle.sets.specs.Sets.{has, size, empty, elements};
+ghost use Rattle.sets.specs.Sets.{size, empty, elements};
 ghost use Rattle.rules.specs.Reports.{rises};
 ghost use Rattle.rules.specs.Systems.{solutions};
 ghost use Rattle.upkeep.specs.Changed.{marked};
-ghost use Rattle.elimination.specs.Calls.{too_many};
+ghost use Rattle.elimination.specs.Calls.{too_many, KeptIfRefused};
 ghost use Rattle.table.specs.OfTable.{meaning_of};
-ghost use Rattle.systems.specs.Told.{Found, free_beside, spread};
-ghost use Rattle.systems.specs.Stated.{Stated, WhereStated, KeptIfRefused, unknowns_of, least_of};
+ghost use Rattle.systems.specs.Told.{Found, free_beside, further, spread};
+ghost use Rattle.systems.specs.Stated.{Stated, WhereStated, unknowns_of, least_of};
 
 use super::System;
 use table::Table;
@@ -59,9 +59,9 @@ impl System {
         self.elimination.least()
     }
 
-    /// Whether a further check of the code is free: some subset of the unknowns is even on each check added and odd on this one. It is not added.
+    /// Whether a check is a further one of the code and free: some subset of the unknowns is even on each check added and odd on this one. It is not added.
     pub fn is_free(&mut self, table: &Table, check: u16) -> bool
-        ensures { (k among odds : List Bool) → Stated self.old (meaning_of table.now) k among odds → Stated self.new (meaning_of table.now) k among odds × (has among check ≡ false → check < length (meaning_of table.now).checks → result ≡ free_beside (meaning_of table.now) k among check) }
+        ensures { (k among odds : List Bool) → Stated self.old (meaning_of table.now) k among odds → Stated self.new (meaning_of table.now) k among odds × (result ≡ (further (meaning_of table.now) among check && free_beside (meaning_of table.now) k among check)) }
     {
         self.write(table, check);
         self.elimination.is_independent()

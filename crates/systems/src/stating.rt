@@ -9,14 +9,16 @@ ghost use Rattle.linear.specs.System.{Row as Equation};
 ghost use Rattle.linear.specs.Compress.{compress};
 ghost use Rattle.rules.specs.Reports.{rises};
 ghost use Rattle.elimination.specs.Holds.{Holds};
-ghost use Rattle.elimination.specs.Calls.{too_many};
+ghost use Rattle.elimination.specs.Calls.{too_many, KeptIfRefused};
 ghost use Rattle.table.specs.OfTable.{meaning_of};
 ghost use Rattle.upkeep.specs.Changed.{marked};
-ghost use Rattle.systems.specs.Stated.{Stated, KeptIfRefused, unknowns_of};
+ghost use Rattle.systems.specs.Stated.{Stated, unknowns_of};
 
-use super::{MOST, System};
+use super::{CHECKS, MOST, QUBITS, System};
+use crate::placing::place_each;
 use elimination::Elimination;
-use marking::looking::is_rising;
+use marking::changing::take_out;
+use marking::looking::{is_marked, is_rising};
 use std::alloc::Global;
 use table::Table;
 use terms::refusal::Refusal;
@@ -31,6 +33,8 @@ impl System {
             elimination: Elimination::new(heap)?,
             unknowns: vec![in heap; 0; MOST]?,
             count: 0,
+            places: vec![in heap; None; QUBITS]?,
+            met: vec![in heap; false; CHECKS]?,
         })
     }
 
@@ -47,15 +51,26 @@ impl System {
         if count > MOST {
             return Err(Refusal::TooManyUnknowns);
         }
+        take_out(&self.unknowns[0..self.count], self.places.as_mut_slice());
         // Kept: `0..count`, for after `..count` nothing is known of the vector.
         self.unknowns[0..count].copy_from_slice(qubits);
         self.count = count;
+        place_each(qubits, self.places.as_mut_slice());
         self.elimination.begin(count as u16)
     }
 
     /// Adds a check, odd or even. One that the code does not have says nothing, and one that was added before says nothing new.
     pub fn add(&mut self, table: &Table, check: u16, odd: bool)
         ensures { (k among odds : List Bool) → odd ≡ has odds check → Stated self.old (meaning_of table.now) k among odds → Stated self.new (meaning_of table.now) k (slice_set among check true) odds }
+    {
+        self.state(table, check, odd);
+    }
+
+    /// The same, which leaves the marks as they are.
+    pub(crate) fn state(&mut self, table: &Table, check: u16, odd: bool)
+        ensures stated { (k among odds : List Bool) → odd ≡ has odds check → Stated self.old (meaning_of table.now) k among odds → Stated self.new (meaning_of table.now) k (slice_set among check true) odds }
+        ensures unknowns { unknowns_of self.new ≡ unknowns_of self.old }
+        ensures met { self.new.met.items ≡ self.old.met.items }
     {
         self.write(table, check);
         self.elimination.add(odd);
@@ -66,7 +81,7 @@ impl System {
         ensures { (k among : List Bool) → Stated self.old (meaning_of table.now) k among odd.now → Stated self.new (meaning_of table.now) k (marked checks.now among) odd.now }
     {
         for check in checks {
-            self.add(table, *check, is_marked(odd, *check));
+            self.add(table, *check, is_marked(*check, odd));
         }
     }
 
@@ -74,27 +89,13 @@ impl System {
     pub(crate) fn write(&mut self, table: &Table, check: u16)
         ensures written { (k : List Bool) (rows : List (Equation Bool)) → elements k ≡ unknowns_of self.old → Holds bits self.old.elimination (size k) rows (replicate (size k) false) → Holds bits self.new.elimination (size k) rows (compress bits k (row (meaning_of table.now).checks check)) }
         ensures unknowns { unknowns_of self.new ≡ unknowns_of self.old }
+        ensures met { self.new.met.items ≡ self.old.met.items }
     {
         for qubit in table.row(Row::Check(check)) {
-            if let Some(place) = place_of(self.unknowns(), *qubit) {
+            if let Some(place) = self.place(*qubit) {
                 // no place is refused, since it is that of an unknown
                 let _ = self.elimination.put(place, true);
             }
         }
     }
-}
-
-/// The place of a qubit among rising unknowns.
-pub(crate) fn place_of(unknowns: &[u16], qubit: u16) -> Option<u16>
-    ensures { (k : List Bool) → elements k ≡ unknowns.now → size k ≤ 256 → MatchOption result (listed qubit unknowns.now ≡ false) (λ t. (t < length unknowns.now) × (slice_index unknowns.now t ≡ qubit)) }
-{
-    let place = unknowns.binary_search(&qubit).ok()?;
-    u16::try_from(place).ok()
-}
-
-/// Whether a place is marked. One past the end is not.
-pub(crate) fn is_marked(marks: &[bool], place: u16) -> bool
-    ensures { result ≡ has marks.now place }
-{
-    marks.get(usize::from(place)) == Some(&true)
 }

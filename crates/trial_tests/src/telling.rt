@@ -106,17 +106,19 @@ impl fmt::Display for State<'_> {
     }
 }
 
-/// Writes how many entries the shelf has, and the check and the qubits of the newest.
+/// Writes how many entries the shelf has, and of each, the newest first, the check and the qubits.
 fn write_shelf<W: fmt::Write>(f: &mut fmt::Formatter<W>, shelf: &Shelf) -> fmt::Result {
     let len = shelf.len();
     write!(f, " | shelf {len}")?;
-    let Some(newest) = shelf.newest() else {
-        return Ok(());
-    };
-    let check = newest.check;
-    write!(f, " newest {check} with")?;
-    for qubit in newest.members {
-        write!(f, " {qubit}")?;
+    for newer in 0..len {
+        let Some(entry) = shelf.get(newer) else {
+            return Ok(());
+        };
+        let check = entry.check;
+        write!(f, " check {check} with")?;
+        for qubit in entry.members {
+            write!(f, " {qubit}")?;
+        }
     }
     Ok(())
 }

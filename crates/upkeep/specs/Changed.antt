@@ -6,12 +6,15 @@ abbrev pub changed : {X : Type 0} → X → (X → X) → List ℕ → List X �
 changed d f [] xs = xs
 changed d f (k ∷ l) xs = changed d f l (slice_set xs k (f (slice_index_or xs k d)))
 
--- marks turned over, and marks set
+-- marks turned over, marks set and marks taken back
 abbrev pub turned : List ℕ → List Bool → List Bool
 turned = changed false not
 
 abbrev pub marked : List ℕ → List Bool → List Bool
 marked = changed false (λ _. true)
+
+abbrev pub unmarked : List ℕ → List Bool → List Bool
+unmarked = changed false (λ _. false)
 
 -- counts one lower, and one higher; a count stays within 0 and 65535
 abbrev pub lowered : List ℕ → List ℕ → List ℕ

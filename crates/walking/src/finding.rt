@@ -1,8 +1,7 @@
 //! The cluster of a qubit and its checks.
-ghost use Rattle.std.specs.Prelude.{◌≡◌, false};
+ghost use Rattle.std.specs.Prelude.{◌≡◌};
 ghost use Rattle.sets.specs.Sets.{elements};
 ghost use Rattle.rules.specs.Clusters.{connecting, internal};
-ghost use Rattle.upkeep.specs.Changed.{changed};
 ghost use Rattle.walking.specs.Found.{listed, told};
 ghost use Rattle.walking.specs.Scenes.{code_of, state_of, cluster_of, SameBytes};
 ghost use Rattle.walking.specs.Steps.{Rested, Unmarked};
@@ -11,6 +10,7 @@ use crate::found::Connecting;
 use crate::ground::Ground;
 use crate::scene::Scene;
 use crate::steps::walk;
+use marking::changing::unmark;
 use marks::Marks;
 
 /// Walks the cluster of the start, lists its members and its internal checks, and tells its connecting checks.
@@ -34,19 +34,6 @@ pub(crate) fn find(scene: &Scene, ground: &mut Ground, marks: &mut Marks) -> Con
     ground.members.sort_unstable();
     ground.internal.sort_unstable();
     tell(&ground.connecting)
-}
-
-/// Takes the mark at each listed place back.
-fn unmark(places: &[u16], marks: &mut [bool])
-    ensures { marks.new ≡ changed false (λ _. false) places.now marks.old }
-{
-    for k in places {
-        let k = usize::from(*k);
-        // Kept: by index, since nothing is known of a slice after `get_mut`.
-        if k < marks.len() {
-            marks[k] = false;
-        }
-    }
 }
 
 /// None, one or several.

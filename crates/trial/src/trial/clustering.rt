@@ -29,14 +29,9 @@ impl Trial<'_> {
         }
         let board = &self.board;
         let closed = self.closed.as_slice();
-        let finding = find(
-            &mut self.walker,
-            &mut self.system,
-            board,
-            closed,
-            qubit,
-            scratch,
-        )?;
+        let walker = &mut self.walker;
+        let system = &mut self.system;
+        let finding = find(walker, system, board, closed, qubit, scratch)?;
         let Some(finding) = finding else {
             self.void = true;
             return Err(Refusal::NoSolution);

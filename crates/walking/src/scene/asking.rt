@@ -4,6 +4,7 @@ ghost use Rattle.sets.specs.Sets.{has, row, meets};
 ghost use Rattle.walking.specs.Scenes.{code_of, beside, across};
 
 use super::Scene;
+use marking::looking::is_marked;
 use marking::statuses::is_erased;
 use terms::row::Row;
 
@@ -26,7 +27,7 @@ impl Scene<'_> {
     pub(crate) fn is_open(&self, check: u16) -> bool
         ensures { result ≡ not (has self.now.closed.now check) }
     {
-        self.closed.get(check as usize) != Some(&true)
+        !is_marked(check, self.closed)
     }
 
     /// Whether a check holds an erased qubit of the other side.

@@ -1,14 +1,17 @@
-use Rattle.std.proofs.Common.{◌≡◌, ℕ, Option, Some, None, Ok, Err, Bool, List, length, ap, ◌∙◌, sym, subst}
+use Rattle.std.proofs.Common.{◌≡◌, ℕ, Option, Some, None, Ok, Err, Bool, not, ◌&&◌, List, length, ap, ◌∙◌, sym, subst}
 use Rattle.std.proofs.lemmas.Result.{err_from_is_err_and}
 use Rattle.terms.specs.Answering.{Answers}
 use Rattle.terms.specs.declared.refusal.Refusal.{Refusal}
-use Rattle.sets.specs.Sets.{elements, empty, size, less, holders}
+use Rattle.sets.specs.Sets.{elements, empty, size, join, less, meets, holders}
+use lib.ListN.{length-map}
 use Rattle.sets.proofs.Numbers.{length_elements}
+use Rattle.sets.proofs.Sets.{length_over}
 use Rattle.meaning.specs.Meaning.{Meaning}
 use Rattle.rules.specs.Systems.{solutions}
 use Rattle.elimination.specs.Calls.{too_many}
 use Rattle.table.specs.OfTable.{meaning_of}
 use Rattle.systems.specs.Stated.{Stated}
+use Rattle.systems.proofs.Touched.{join_empty}
 use Rattle.trial.specs.Solving.{SolvedOver}
 use Rattle.trial.proofs.trial.solving.solve_touched.Goals as goal
 
@@ -36,5 +39,9 @@ returns c k e closed odds =
     answered {X = Unit {0}} {Y = Option ℕ} tt c.solve.result (too_many (length c.args.qubits.now)) P (λ o. SolvedOver c.solve.new.self k (solutions M.checks k (less (holders M.checks k) c.args.closed.now) c.args.odd.now) o)
     (subst (λ (f : Option Refusal). Answers {X = Unit {0}} (Ok tt) f P) (many k _ e) (c.in_ok-begin.ensures.begun k e))
     (λ (p : P tt).
-    let solved = c.solve.ensures.found M k _ _ (c.add_touched.ensures k closed (p M c.args.odd.now odds)) in
+    let T = less (holders M.checks k) c.args.closed.now in
+    let all : join (empty (length M.checks)) T ≡ T =
+    join_empty (length M.checks) T (length_over (λ x y. x && not y) (holders M.checks k) c.args.closed.now (length M.checks) (length-map M.checks (λ c. meets c k)) closed) in
+    let added = subst (λ (m : List Bool). Stated c.add_touched.new.self M k m c.args.odd.now) all (c.add_touched.ensures k (empty (length M.checks)) closed (p M c.args.odd.now odds)) in
+    let solved = c.solve.ensures.found M k _ _ added in
     (solved.0.unknowns, solved.1))

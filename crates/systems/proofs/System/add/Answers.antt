@@ -1,7 +1,0 @@
-use Rattle.table.specs.OfTable.{meaning_of}
-use Rattle.systems.proofs.Begun.{added}
-use Rattle.systems.proofs.System.add.Goals as goal
-
-pub returns : goal.returns
-returns c k among odds o s =
-    added c.args.self.now _ (meaning_of c.args.table.now) k among odds s c.write.ensures.unknowns c.args.check c.args.odd o (c.add.ensures _ _ _ (c.write.ensures.written k _ s.unknowns s.held))

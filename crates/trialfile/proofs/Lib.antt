@@ -1,0 +1,3 @@
+pub mod Each
+pub mod Accepted
+pub mod Within

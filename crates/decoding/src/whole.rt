@@ -32,13 +32,28 @@ pub fn decode<C: Code>(
     ensures truth { TrueRun (C.meaning code.now) tally.old.counts report.entry.lost.now report.entry.odd.now switches result }
 {
     let table = Table::of(heap, code)?;
+    decode_on(heap, &table, report, switches, buffer, tally)
+}
+
+/// The same on a code's table, which serves one report after another.
+pub fn decode_on(
+    heap: Global,
+    table: &Table,
+    report: Report<'_>,
+    switches: u16,
+    buffer: &mut [u8],
+    tally: &mut Tally,
+) -> Result<Verdict, Refusal>
+    ensures does { Decodes result tally.old.counts buffer.old tally.new.counts buffer.new (decoded (meaning_of table.now) tally.old.counts report.entry.lost.now report.entry.odd.now switches buffer.old) }
+    ensures truth { TrueRun (meaning_of table.now) tally.old.counts report.entry.lost.now report.entry.odd.now switches result }
+{
     let qubits = table.qubits() as usize;
     if buffer.len() < qubits {
         return Err(Refusal::BufferTooShort);
     }
     Switches::of(switches)?;
     let mut scratch = vec![in heap; 0u8; qubits]?;
-    let opened = Trial::open(heap, &table, report, tally)?;
+    let opened = Trial::open(heap, table, report, tally)?;
     Ok(run_through(opened, switches, scratch.as_mut_slice(), buffer, tally))
 }
 

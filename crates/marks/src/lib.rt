@@ -64,7 +64,8 @@ pub fn scratch_fault(scratch: &[u8], qubits: usize) -> Result<(), Refusal>
     let Some(used) = scratch.get(..qubits) else {
         return Err(Refusal::BufferTooShort);
     };
-    if used.iter().any(|byte| *byte != 0) {
+    // The greatest, in place of a look for the first that is not zero: bytes are compared many at a time, and there is mostly none.
+    if used.iter().fold(0, |most: u8, byte| most.max(*byte)) != 0 {
         return Err(Refusal::ScratchNotZero);
     }
     Ok(())

@@ -1,4 +1,4 @@
-//! The shelf of a trial: solved clusters that wait, each with the check that was closed for it, newest on top. Its memory is taken when it is made.
+//! The shelf of a trial: clusters that wait to be settled, each with the check that was closed for it, newest on top. Its memory is taken when it is made.
 #![tactic(auto)]
 
 use std::marker::Model;

@@ -27,24 +27,6 @@ impl System {
         self.elimination.slack()
     }
 
-    /// Solves the system of these unknowns, which rise, and these checks, each odd if it is marked so.
-    pub fn solve_for(
-        &mut self,
-        table: &Table,
-        unknowns: &[u16],
-        checks: &[u16],
-        odd: &[bool],
-    ) -> Result<Option<u16>, Refusal>
-        ensures few { IfOk result (λ slack. IfSome slack (λ s. s ≤ 256)) }
-        ensures solved { (k : List Bool) → elements k ≡ unknowns.now → length odd.now ≡ length (meaning_of table.now).checks → Answers result (too_many (size k)) (λ slack. let M = meaning_of table.now in let among = marked checks.now (empty (length M.checks)) in Stated self.new M k among odd.now × Found (solutions M.checks k among odd.now) slack (spread k (least_of self.new))) }
-        ensures falling { rises unknowns.now ≡ false → result ≡ Err NotRising }
-        ensures kept { KeptIfRefused result self.old self.new }
-    {
-        self.begin(unknowns)?;
-        self.add_all(table, checks, odd);
-        Ok(self.solve())
-    }
-
     /// The unknowns, rising.
     pub fn unknowns(&self) -> &[u16]
         ensures { result.now ≡ unknowns_of self.now }

@@ -59,7 +59,7 @@ impl System {
         self.elimination.begin(count as u16)
     }
 
-    /// Adds a check, odd or even. One that the code does not have says nothing, and one that was added before says nothing new.
+    /// Adds a check, odd or even. One that the code does not have says nothing, and one that was added before, as odd or as even as now, says nothing new.
     pub fn add(&mut self, table: &Table, check: u16, odd: bool)
         ensures { (k among odds : List Bool) → odd ≡ has odds check → Stated self.old (meaning_of table.now) k among odds → Stated self.new (meaning_of table.now) k (slice_set among check true) odds }
     {

@@ -7,4 +7,3 @@ pub mod Walking
 pub mod Sorting
 pub mod Cluster
 pub mod Lent
-pub mod Seen

@@ -5,9 +5,6 @@ use Rattle.rules.specs.States.{State}
 use Rattle.walking.specs.Steps.{Touched, Onward}
 use Rattle.walking.specs.declared.ground.Ground.{Ground}
 
-pub onward_none : (n : ℕ) (m : List ℕ) (g : Ground) → Onward n m g n m g
-onward_none n m g = record { size = refl; members = refl; met = λ d h. h; kept = λ k h. h; long = refl; beyond = refl }
-
 pub onward_then : (n : ℕ) (m : List ℕ) (g : Ground) (n1 : ℕ) (m1 : List ℕ) (g1 : Ground) (n2 : ℕ) (m2 : List ℕ) (g2 : Ground) → Onward n m g n1 m1 g1 → Onward n1 m1 g1 n2 m2 g2 → Onward n m g n2 m2 g2
 onward_then n m g n1 m1 g1 n2 m2 g2 a b = record {
   size = b.size ∙ a.size;

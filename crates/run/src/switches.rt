@@ -6,6 +6,7 @@ ghost use Rattle.run.specs.Stages.{switches_of};
 use terms::refusal::Refusal;
 
 /// Which stages a run has.
+// Kept: the sum itself, since the rules name the stages by it; four marks would have to be tied to it in each contract.
 #[derive(Clone, Copy, PartialEq, Eq, Debug)]
 pub struct Switches {
     sum: u16,

@@ -1,4 +1,4 @@
--- The shelf as the rules have it: what putting an entry on and taking the newest off are there.
+-- The shelf as the rules have it.
 use Rattle.std.proofs.Common.{◌≡◌, ℕ, List, [], ◌∷◌, length, drop, Some, None, refl, ap}
 use Rattle.std.specs.Prelude.{slice_get}
 use lib.ListN.{length-map}

@@ -1,4 +1,4 @@
--- Why there is always room: the members of the entries are the shelved qubits, and their checks are the closed ones.
+-- One more or one fewer in a set: an entry that is put on closes its check, and one that is taken off opens it.
 use Rattle.std.proofs.Common.{◌≡◌, ℕ, zero, suc, ◌+◌, ◌<◌, ◌≤◌, Bool, true, false, ◌&&◌, List, [], ◌∷◌, length, set, sym, refl, ap, ap₂, ◌∙◌, arith, length-set}
 use mathlib.Core.Bool.{false≢true}
 use Rattle.std.proofs.lemmas.Bool.{lt-ltb, le-leb}

@@ -3,7 +3,7 @@ pub mod Places
 pub mod Rows
 pub mod Answers
 pub mod Begun
-pub mod Searching
+pub mod Qubits
 pub mod Touched
 pub mod Standing
 pub mod Reading

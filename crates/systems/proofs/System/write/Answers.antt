@@ -9,7 +9,7 @@ use Rattle.elimination.specs.Holds.{Holds}
 use Rattle.systems.specs.declared.System.{System}
 use Rattle.systems.specs.Stated.{unknowns_of}
 use Rattle.systems.proofs.Places.{written_of, written_none, written_put, written_left, written_all}
-use Rattle.systems.proofs.Searching.{inside, told_once, told_names, told_low}
+use Rattle.systems.proofs.Qubits.{inside, told_once, told_names, told_low}
 use Rattle.systems.proofs.System.write.Goals as goal
 use Rattle.systems.proofs.System.write.Goals.{in-Some, in_default}
 

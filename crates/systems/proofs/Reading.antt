@@ -1,18 +1,12 @@
 -- What a caller reads off a system: which qubits a solution has, and whether a cluster's connecting check is free.
-use Rattle.std.proofs.Common.{◌≡◌, ℕ, zero, suc, ◌+◌, ◌<◌, ◌≤◌, Bool, true, false, not, ◌&&◌, eqb, List, [], ◌∷◌, length, get_or, set, sym, refl, ap, ◌∙◌, ap₂, arith, lt-ltb}
-use Rattle.std.proofs.lemmas.List.{length-take-le}
-use Rattle.sets.specs.Sets.{has, size, only, elements, elements_from}
+use Rattle.std.proofs.Common.{◌≡◌, ℕ, ◌<◌, Bool, true, false, not, ◌&&◌, eqb, List, length, set, sym, ◌∙◌, ap₂, lt-ltb}
+use Rattle.sets.specs.Sets.{has, only}
 use Rattle.sets.proofs.Sets.{has_any, only_self}
 use Rattle.meaning.specs.Meaning.{Meaning}
-use Rattle.linear.specs.Field.{bits}
-use Rattle.linear.specs.Basis.{tl}
 use Rattle.rules.specs.States.{State}
 use Rattle.rules.specs.Systems.{solutions}
 use Rattle.rules.specs.Clusters.{touched, free}
-use Rattle.systems.specs.declared.System.{System}
-use Rattle.systems.specs.Told.{spread, further, free_beside}
-use Rattle.systems.specs.Stated.{Stated, least_of}
-use Rattle.systems.proofs.Places.{has_hd, has_tl}
+use Rattle.systems.specs.Told.{further, free_beside}
 
 -- a single connecting check beside the internal ones is free by the rules if it is free beside these
 pub free_by_rules : (M : Meaning) (s : State) (k internals : List Bool) (c : ℕ) → touched M s k ≡ set internals c true → c < length M.checks → free_beside M k internals c ≡ free M s k (only (length M.checks) c)

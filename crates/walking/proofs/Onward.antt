@@ -1,5 +1,5 @@
 -- A walk goes on.
-use Rattle.std.proofs.Common.{ℕ, List, refl, ◌∙◌}
+use Rattle.std.proofs.Common.{ℕ, List, ◌∙◌}
 use Rattle.meaning.specs.Meaning.{Meaning}
 use Rattle.rules.specs.States.{State}
 use Rattle.walking.specs.Steps.{Touched, Onward}

@@ -258,7 +258,7 @@ module _ (M : Meaning) (s : State) (q : ℕ) (scratch : List ℕ) (c : Connectin
     pub few : size (connects M s q) ≤ 1
     few = few_told (size (connects M s q)) (lowest (connects M s q)) (λ e. not_several (h.tells ∙ e))
 
-    rest : solve_fault M s q scratch ≡ too_many (size (cluster M s q))
+    pub rest : solve_fault M s q scratch ≡ too_many (size (cluster M s q))
     rest = fault_after 6 all (first.0, (first.1.0, (first.1.1.0, (first.1.1.1.0, (first.1.1.1.1.0, (few_ltb (size (connects M s q)) few, tt))))))
       where
         few_ltb : (n : ℕ) → n ≤ 1 → ltb 1 n ≡ false

@@ -6,7 +6,9 @@ pub mod Closes
 pub mod Opens
 pub mod Sweeps
 pub mod Settles
+pub mod Searched
 pub mod Shelves
 pub mod Clusters
 pub mod Puts
 pub mod Solves
+pub mod Passes

@@ -7,3 +7,4 @@ pub mod Viewed
 pub mod Boards
 pub mod Solving
 pub mod Clusters
+pub mod Passing

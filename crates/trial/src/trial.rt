@@ -10,14 +10,17 @@ use systems::System;
 use walking::walker::Walker;
 
 mod board;
+pub mod clearing;
 pub mod closing;
 pub mod clustering;
 mod erasing;
 mod finding;
 mod finishing;
 pub mod opening;
+mod passing;
 mod peeling;
 mod pruning;
+pub mod searching;
 mod settling;
 mod shelving;
 mod solving;
@@ -39,6 +42,8 @@ pub struct Trial<'t> {
     system: System,
     /// Where qubits are listed that a system is to be over.
     listed: Vec<u16>,
+    /// Where qubits are marked that are passed over in a turn of a run.
+    passed: Vec<bool>,
     shelf: Shelf,
     ghost sized: { Sized (meaning_of board.erasures.table.now) (state_of board.erasures.status.items board.flipped.items closed.items board.odd.items (shelf_of shelf) void number peeled pruned chosen) },
     ghost equipped: { Equipped board.erasures.table.now (vec_capacity listed) shelf walker.table },

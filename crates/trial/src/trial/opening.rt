@@ -67,6 +67,7 @@ fn begin<'t>(
     let system = System::new(heap)?;
     let listed = Vec::with_capacity(heap, table.qubits() as usize)?;
     let shelf = Shelf::new(heap, table.qubits(), table.checks())?;
+    let passed = vec![in heap; false; table.qubits() as usize]?;
     let board = Board {
         erasures,
         flipped,
@@ -83,6 +84,7 @@ fn begin<'t>(
         walker,
         system,
         listed,
+        passed,
         shelf,
     })
 }

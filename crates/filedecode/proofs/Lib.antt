@@ -1,1 +1,2 @@
 mod Accepted
+pub mod Lined

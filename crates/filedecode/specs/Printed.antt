@@ -22,7 +22,7 @@ end_of c = run_from (code_of c) c.switches (record { trial = opening (code_of c)
 abbrev pub trial_lines : Contents → List ℕ
 trial_lines c = verdict_lines c.rows c.columns (verdict (end_of c)) (map byte (end_of c).flipped)
 
--- of a refused file the line of its first fault; no fault that a file has is without one
+-- of a refused file the line of its first fault; want of memory, which is none, has no line
 abbrev pub line_or_none : Option (List ℕ) → List ℕ
 line_or_none (Some l) = l
 line_or_none None = []

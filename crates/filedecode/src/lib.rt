@@ -1,7 +1,7 @@
 //! From the bytes of a trial file to the lines that are printed for it.
 #![tactic(auto)]
 
-ghost use Rattle.std.specs.Prelude.{◌≡◌, ◌≤◌, map, length, IfOk, string_bytes};
+ghost use Rattle.std.specs.Prelude.{◌≡◌, ◌<◌, ◌≤◌, map, length, IfOk, string_bytes};
 ghost use Rattle.meaning.specs.Meaning.{qubits};
 ghost use Rattle.product.specs.OfProduct.{meaning_of};
 ghost use Rattle.rules.specs.Tallies.{verdict, byte};
@@ -25,6 +25,7 @@ use trialfile::file::TrialFile;
 pub fn decode_file(heap: Global, file: &[u8]) -> Result<String, AllocError>
     ensures lines { IfOk result (λ s. string_bytes s ≡ printed file.now) }
     ensures short { IfOk result (λ s. length (string_bytes s) ≤ 65536) }
+    ensures some { 0 < length (printed file.now) }
     ensures truth { IfOk result (λ s. TrueOfFile file.now (string_bytes s)) }
 {
     match TrialFile::read(heap, file) {

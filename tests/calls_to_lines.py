@@ -72,10 +72,17 @@ def prune(names, step):
     return ["prune", names.of(step, "trial"), names.of(step, "slip"), step["qubit"], len(generators)] + generators
 
 
-def solve(names, step):
+def scratch(step):
     used = step["scratch"]["nonzero"]
-    scratch = [step["scratch"]["len"], len(used)] + [n for one in used for n in one]
-    return ["solve", names.of(step, "trial"), names.of(step, "slip"), step["qubit"]] + scratch
+    return [step["scratch"]["len"], len(used)] + [n for one in used for n in one]
+
+
+def solve(names, step):
+    return ["solve", names.of(step, "trial"), names.of(step, "slip"), step["qubit"]] + scratch(step)
+
+
+def run(names, step):
+    return ["run", names.of(step, "trial"), names.of(step, "slip"), step["switches"]] + scratch(step)
 
 
 def sweep(names, step):
@@ -104,6 +111,7 @@ TRIAL_CALLS = {
     "peel": peel,
     "prune": prune,
     "solve": solve,
+    "run": run,
     "sweep": sweep,
     "settle": settle,
     "copy_out": copy_out,
@@ -133,7 +141,7 @@ def expected(step):
     parts = [answer_of(step)]
     if step["call"] == "copy_out":
         parts.append(words(["bytes"] + step["buffer_after"]))
-    if step["call"] == "solve":
+    if step["call"] in ("solve", "run"):
         # They are afterwards as they were.
         parts.append(words(["scratch"] + [n for one in step["scratch"]["nonzero"] for n in one]))
     if "after" in step:

@@ -13,6 +13,9 @@ use Rattle.rules.proofs.Bars.{guarded, accepted, passed}
 use Rattle.trial.specs.Opening.{OpensAs, Opens}
 use Rattle.decoding.specs.Peeling.{peels, decided_from, decided, DecidesAs, Decides}
 
+pub pair : {X Y : Type 0} {r : X × Y} {x : X} {y : Y} → (x ≡ r.0) × (y ≡ r.1) → r ≡ (x, y)
+pair h = let p = sym h.0 in let q = sym h.1 in λ i. (p i, q i)
+
 -- peels leave the trial's number
 peel_number : (M : Meaning) (s : State) (slip c : ℕ) → (peel M s slip c).1.number ≡ s.number
 peel_number M s slip c = guarded (peel_bars M s slip c) s _ (λ (x : State). x.number ≡ s.number) refl (λ _. refl)
@@ -26,13 +29,13 @@ opened_or d (Ok x) = x
 opened_or d (Err f) = d
 
 module _ (M : Meaning) (t : Tally) (lost odds checks : List ℕ) (balanced : closings t ≤ t.opened) (o : Opened) (later : Tally) (e : open_trial M t lost odds ≡ (Ok o, later)) where
-  abbrev given : Opened
+  abbrev pub given : Opened
   given = record { trial = opening M (report M lost odds) (t.opened + 1); slip = t.opened + 1 }
 
   same : ◌≡◌ {A = Result Opened Refusal × Tally} (Ok o, later) (Ok given, one_more t)
   same = sym e ∙ passed (open_bars M t lost odds) t (Ok given, one_more t) (accepted (open_bars M t lost odds) t (Ok given, one_more t) o (ap (λ (r : Result Opened Refusal × Tally). r.0) e))
 
-  is_given : o ≡ given
+  pub is_given : o ≡ given
   is_given = ap (opened_or o) (ap (λ (r : Result Opened Refusal × Tally). r.0) same)
 
   abbrev end : State
@@ -41,7 +44,7 @@ module _ (M : Meaning) (t : Tally) (lost odds checks : List ℕ) (balanced : clo
   shown : eqb o.slip end.number ≡ true
   shown = eq-eqb o.slip end.number (ap (λ (x : Opened). x.slip) is_given ∙ sym (peels_number M o.trial o.slip checks ∙ ap (λ (x : Opened). x.trial.number) is_given))
 
-  out : eqb later.opened (closings later) ≡ false
+  pub out : eqb later.opened (closings later) ≡ false
   out = ap (λ (r : Result Opened Refusal × Tally). eqb r.1.opened (closings r.1)) same ∙ ne_eqb (t.opened + 1) (closings t) (λ h. absurd (omega arith))
 
   -- the close is accepted

@@ -6,10 +6,8 @@ use Rattle.meaning.specs.Meaning.{Meaning, Sound}
 use Rattle.rules.specs.declared.answers.Ending.{Ending}
 use Rattle.rules.specs.declared.answers.Outcome.{Outcome}
 use Rattle.rules.specs.declared.answers.Outcome.TheVariants.{Solved, Nothing, Unfinished}
-use Rattle.rules.specs.Reports.{Report, report}
 use Rattle.rules.specs.States.{State}
-use Rattle.rules.specs.Tallies.{Tally, Opened, open_trial, outcome}
-use Rattle.rules.specs.CallLists.{Call, after}
+use Rattle.rules.specs.Tallies.{outcome}
 use Rattle.rules.specs.Run.{run}
 use Rattle.rules.proofs.Runs.{run_calls}
 use Rattle.rules.proofs.Turns.{run_ends}

@@ -1,7 +1,7 @@
 -- No call changes the number that a trial shares with its slip.
-use Rattle.std.proofs.Common.{◌≡◌, ℕ, zero, suc, Bool, true, false, List, [], ◌∷◌, refl, ◌∙◌}
+use Rattle.std.proofs.Common.{◌≡◌, ℕ, zero, suc, Bool, true, false, List, [], ◌∷◌, length, Ok, refl, ◌∙◌}
 use mathlib.Core.Option.{Option, none, some}
-use Rattle.meaning.specs.Meaning.{Meaning}
+use Rattle.meaning.specs.Meaning.{Meaning, qubits}
 use Rattle.rules.specs.States.{Entry, State, reopen}
 use Rattle.rules.specs.Clusters.{touched, cluster, free}
 use Rattle.rules.specs.Systems.{solutions}
@@ -9,7 +9,7 @@ use Rattle.rules.specs.Refusing.{wrong_slip}
 use Rattle.rules.specs.Calls.{peel_bars, prune_bars, solve_bars, sweep_bars, settle_bars, solve_found, sweep_found, settle_found, settle_newest, settle}
 use Rattle.rules.specs.CallLists.{Call, Peel, Prune, Solve, Sweep, Settle, Close, call}
 use Rattle.rules.specs.Moves.{solve_from, sweep_from, connects}
-use Rattle.rules.specs.Run.{next, turns}
+use Rattle.rules.specs.Run.{next, turns, settles, ran, ending, run_bars, run}
 use Rattle.rules.proofs.Bars.{guarded}
 use Rattle.running.specs.Turning.{taken}
 
@@ -60,3 +60,13 @@ turns_number M w scratch (suc n) s = go s.void (next M w scratch s) (λ t. turns
     go true o ih = refl
     go false none ih = refl
     go false (some c) ih = ih (call M s c) ∙ call_number M s c
+
+settles_number : (M : Meaning) (n : ℕ) (s : State) → (settles M n s).number ≡ s.number
+settles_number M zero s = refl
+settles_number M (suc n) s = settles_number M n (settle M s s.number).1 ∙ settle_number M s s.number
+
+pub run_number : (M : Meaning) (s : State) (slip w : ℕ) (scratch : List ℕ) → (run M s slip w scratch).1.number ≡ s.number
+run_number M s slip w scratch =
+    let t : State = turns M w scratch (qubits M) s in
+    guarded (run_bars M s slip w scratch) s (Ok (ending (ran M w scratch s)), ran M w scratch s) (λ (u : State). u.number ≡ s.number) refl
+    (λ _. settles_number M (length t.shelf) t ∙ turns_number M w scratch (qubits M) s)

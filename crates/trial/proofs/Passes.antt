@@ -1,5 +1,5 @@
 -- Clusters that a solve is refused in for several connecting checks or too many unknowns.
-use Rattle.std.proofs.Common.{◌≡◌, ℕ, ◌<◌, Bool, true, false, cond, not, ◌&&◌, ltb, List, [], ◌∷◌, length, Some, None, Option, Ok, Err, Result, sym, refl, ap, ap₂, ◌∙◌, ◌⊎◌, take, drop, arith}
+use Rattle.std.proofs.Common.{◌≡◌, ℕ, ◌<◌, Bool, true, false, cond, not, ◌&&◌, ltb, List, length, Some, None, Option, Err, Result, sym, refl, ap, ap₂, ◌∙◌, ◌⊎◌, take, drop, arith}
 use Rattle.std.proofs.lemmas.Bool.{and_from, or_cases}
 use Rattle.terms.specs.declared.refusal.Refusal.{Refusal}
 use Rattle.terms.specs.declared.refusal.Refusal.TheVariants.{QubitTooLarge, BufferTooShort, ScratchNotZero, SeveralConnecting, TooManyUnknowns, NoSolution}

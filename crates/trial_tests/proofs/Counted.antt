@@ -7,6 +7,9 @@ use Rattle.terms.specs.declared.refusal.Refusal.TheVariants.{WrongSlip}
 use Rattle.meaning.specs.Meaning.{Meaning}
 use Rattle.sets.specs.Sets.{lowest}
 use Rattle.rules.specs.declared.answers.Cluster.{Cluster}
+use Rattle.rules.specs.declared.answers.Ending.{Ending}
+use Rattle.rules.specs.Run.{run}
+use Rattle.running.proofs.Numbered.{run_number}
 use Rattle.rules.specs.declared.answers.Cluster.TheVariants.{Shelved, Flipped}
 use Rattle.rules.specs.declared.answers.Outcome.{Outcome}
 use Rattle.rules.specs.declared.answers.Outcome.TheVariants.{Solved, Nothing, Unfinished}
@@ -131,6 +134,10 @@ solve_number M t u slip q scratch later r e =
     ap (λ (x : Result Cluster Refusal × State × List ℕ). x.1.number) e
     ∙ guarded (solve_bars M t.state q scratch K (connects M t.state q)) t.state _ (λ (x : State). x.number ≡ t.state.number) refl
     (λ _. solved_number M t.state slip K (connects M t.state q) (free M t.state K (connects M t.state q)) (solve_from M t.state q))
+
+pub run_kept : (M : Meaning) (t u : Trial) (slip w : ℕ) (scratch later : List ℕ) (r : Result Ending Refusal) → ◌≡◌ {A = Result Ending Refusal × State × List ℕ} (r, u.state, later) (run M t.state slip w scratch)
+    → u.state.number ≡ t.state.number
+run_kept M t u slip w scratch later r e = ap (λ (x : Result Ending Refusal × State × List ℕ). x.1.number) e ∙ run_number M t.state slip w scratch
 
 found_number : (M : Meaning) (s : State) (slip : ℕ) (found : List (List Bool)) → (sweep_found M s slip found).1.number ≡ s.number
 found_number M s slip [] = refl

@@ -39,6 +39,7 @@ impl<'t> Bench<'t> {
             "peel" => self.trials.peel(&mut numbers),
             "prune" => self.trials.prune(heap, &mut numbers)?,
             "solve" => self.trials.solve(heap, &mut numbers)?,
+            "run" => self.trials.run(heap, &mut numbers)?,
             "sweep" => self.trials.sweep(&mut numbers),
             "settle" => self.trials.settle(&mut numbers),
             "copy_out" => self.copy_out(heap, &mut numbers)?,

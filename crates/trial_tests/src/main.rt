@@ -9,8 +9,8 @@
 //! - `tally` makes a tally; `churn CODE TALLY TIMES` opens and closes so many times.
 //! - `open CODE TALLY`, a count and the lost qubits, a count and the odd checks: the slip's number.
 //! - `peel TRIAL SLIP CHECK`; `prune TRIAL SLIP QUBIT`, a count and the generators; `solve TRIAL SLIP QUBIT`, the length of a scratch buffer, a count
-//!   and the places that are not zero, each with its byte: `shelved` or `flipped`, and after it these places again; `sweep TRIAL SLIP`;
-//!   `settle TRIAL SLIP`; `close TRIAL SLIP TALLY`: the verdict; `copy_out TRIAL LEN FILL`: all bytes of a buffer of that
+//!   and the places that are not zero, each with its byte: `shelved` or `flipped`, and after it these places again; `run TRIAL SLIP SWITCHES` and a
+//!   scratch buffer likewise: `void`, `emptied` or `stopped`, and these places again; `sweep TRIAL SLIP`; `settle TRIAL SLIP`; `close TRIAL SLIP TALLY`: the verdict; `copy_out TRIAL LEN FILL`: all bytes of a buffer of that
 //!   length, filled with that byte before.
 //!
 //! After the answer to a call comes all of its trial, and the counts of its tally. A further call is a further word in `Bench::play`.

@@ -1,6 +1,6 @@
 //! What is told of a call, as text.
 use played::refused::Refused;
-use rules::answers::{Cluster, Outcome, Status, Verdict};
+use rules::answers::{Cluster, Ending, Outcome, Status, Verdict};
 use shelf::Shelf;
 use std::fmt;
 use terms::refusal::Refusal;
@@ -13,6 +13,7 @@ pub(crate) enum Answer {
     Done,
     Number(u32),
     Solved(Cluster),
+    Ended(Ending),
     Closed(Verdict),
     Refused(Refusal),
     /// The line names a code, tally, trial or slip that is not there, or the call is not known.
@@ -36,6 +37,13 @@ impl Answer {
             Err(refusal) => Answer::Refused(refusal),
         }
     }
+
+    pub(crate) fn of_run(told: Result<Ending, Refusal>) -> Answer {
+        match told {
+            Ok(ending) => Answer::Ended(ending),
+            Err(refusal) => Answer::Refused(refusal),
+        }
+    }
 }
 
 impl fmt::Display for Answer {
@@ -45,6 +53,9 @@ impl fmt::Display for Answer {
             Answer::Number(number) => write!(f, "ok {number}"),
             Answer::Solved(Cluster::Shelved) => f.write_str("ok shelved"),
             Answer::Solved(Cluster::Flipped) => f.write_str("ok flipped"),
+            Answer::Ended(Ending::Void) => f.write_str("ok void"),
+            Answer::Ended(Ending::Emptied) => f.write_str("ok emptied"),
+            Answer::Ended(Ending::Stopped) => f.write_str("ok stopped"),
             Answer::Closed(verdict) => {
                 let word = outcome_word(verdict.outcome);
                 let peeled = verdict.peeled;

@@ -5,6 +5,7 @@ ghost use Rattle.trial_tests.specs.Slips.{outs, held, trial_numbers, Own};
 use crate::calling::{close_held, close_somewhere, scratch_of};
 use crate::telling::{Answer, Told};
 use played::numbers::Numbers;
+use run::run;
 use std::alloc::{AllocError, Global};
 use trial::slip::Slip;
 use trial::tally::Tally;
@@ -81,6 +82,25 @@ impl<'t> Trials<'t> {
         let qubit = numbers.short();
         let mut scratch = scratch_of(heap, numbers)?;
         let answer = Answer::of_solve(trial.solve(slip, qubit, scratch.as_mut_slice()));
+        let mut told = Told::of_trial(answer, place);
+        told.scratch = Some(scratch);
+        Ok(told)
+    }
+
+    /// Runs the trial of one place and shows it the slip of another.
+    pub(crate) fn run(&mut self, heap: Global, numbers: &mut Numbers) -> Result<Told, AllocError>
+        ensures { self.new.slips.items ≡ self.old.slips.items }
+    {
+        let place = numbers.place();
+        let Some(Some(slip)) = self.slips.get(numbers.place()) else {
+            return Ok(Told::unknown());
+        };
+        let Some(trial) = self.trials.get_mut(place) else {
+            return Ok(Told::unknown());
+        };
+        let switches = numbers.short();
+        let mut scratch = scratch_of(heap, numbers)?;
+        let answer = Answer::of_run(run(trial, slip, switches, scratch.as_mut_slice()));
         let mut told = Told::of_trial(answer, place);
         told.scratch = Some(scratch);
         Ok(told)

@@ -13,6 +13,7 @@ ghost use Rattle.trial.specs.Passing.{ShownBy};
 
 use super::board::Board;
 use marking::changing::mark;
+use marking::looking::is_marked;
 use marking::statuses::is_erased;
 use walking::found::Connecting;
 use walking::walker::Walker;
@@ -38,7 +39,7 @@ pub(crate) fn lowest_solvable(
         if !is_erased(q, board.erasures.status.as_slice()) {
             continue;
         }
-        if passed.get(q as usize) == Some(&true) {
+        if is_marked(q, passed) {
             continue;
         }
         if void {

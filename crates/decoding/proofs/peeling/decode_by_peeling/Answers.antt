@@ -16,11 +16,8 @@ use Rattle.table.specs.declared.Table.{Table}
 use Rattle.trial.specs.Closing.{TellsTruth}
 use Rattle.trial.specs.Opening.{Opens, opened_of}
 use Rattle.decoding.specs.Peeling.{peels, decided, Decides, TrueAfter}
-use Rattle.decoding.proofs.Decided.{failed, finished, is_closed, one_opened}
+use Rattle.decoding.proofs.Decided.{pair, failed, finished, is_closed, one_opened}
 use Rattle.decoding.proofs.peeling.decode_by_peeling.Goals as goal
-
-pair : {X Y : Type 0} {r : X × Y} {x : X} {y : Y} → (x ≡ r.0) × (y ≡ r.1) → r ≡ (x, y)
-pair h = let p = sym h.0 in let q = sym h.1 in λ i. (p i, q i)
 
 pub returns-in_err-table : goal.returns-in_err-table
 returns-in_err-table g c =

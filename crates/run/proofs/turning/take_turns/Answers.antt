@@ -1,4 +1,4 @@
-use Rattle.std.proofs.Common.{◌≡◌, ℕ, suc, ◌+◌, ◌-◌, Bool, false, List, length, sym, ap, ◌∙◌, subst, arith}
+use Rattle.std.proofs.Common.{◌≡◌, ℕ, suc, ◌+◌, ◌-◌, Bool, false, List, length, sym, ap, ◌∙◌, subst, arith, rules}
 use Rattle.std.proofs.lemmas.List.{length-map}
 use Rattle.meaning.specs.Meaning.{qubits}
 use Rattle.rules.specs.States.{State}
@@ -22,7 +22,7 @@ loop-turn-preserved c =
     let u = c.turn.new.trial.state in
     let n = qubits M in
     let i = c.loop-turn._turn in
-    let alive : s.void ≡ false = sym (ap (λ (x : State). x.void) c.view-in-loop-turn.ensures) ∙ c.if-view.false in
+    let alive : s.void ≡ false = search rules in
     let does = c.turn.ensures.does ∙ ap (λ (l : List ℕ). taken (code c.loop-turn.trial) s (next (code c.loop-turn.trial) w l s)) c.loop-turn.invariant.scratch ∙ ap (λ (x : Table). taken (meaning_of x) s (next (meaning_of x) w y s)) c.loop-turn.invariant.table in
     let done = ap (λ b. (b, u)) (sym c.if-not-turn.false) ∙ does in
     let long : length c.view.result.status.now ≡ n = sym (length-map c.view.result.status.now is_erased) ∙ ap (λ (x : State). length x.erased) c.view.ensures ∙ c.args.trial.now.sized.erased in
@@ -49,6 +49,6 @@ returns-then-not-turn-clause-does c =
     let y = c.args.scratch.now in
     let s = c.loop-turn.trial.state in
     let u = c.turn.new.trial.state in
-    let alive : s.void ≡ false = sym (ap (λ (x : State). x.void) c.view-in-loop-turn.ensures) ∙ c.if-view.false in
+    let alive : s.void ≡ false = search rules in
     let does = c.turn.ensures.does ∙ ap (λ (l : List ℕ). taken (code c.loop-turn.trial) s (next (code c.loop-turn.trial) w l s)) c.loop-turn.invariant.scratch ∙ ap (λ (x : Table). taken (meaning_of x) s (next (meaning_of x) w y s)) c.loop-turn.invariant.table in
     sym (turns_idle M w y (qubits M - c.loop-turn._turn) s u alive (ap (λ b. (b, u)) (sym c.if-not-turn.true) ∙ does)) ∙ c.loop-turn.invariant.leads

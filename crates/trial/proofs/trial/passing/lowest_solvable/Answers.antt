@@ -1,5 +1,5 @@
-use Rattle.std.proofs.Common.{◌≡◌, ℕ, ◌<◌, Bool, true, false, List, length, Ok, Result, sym, ap, ◌∙◌, subst, rules, arith, inl, inr}
-use Rattle.sets.specs.Sets.{has, among, elements}
+use Rattle.std.proofs.Common.{◌≡◌, ℕ, ◌<◌, true, false, List, length, sym, ap, ◌∙◌, arith, inl, inr}
+use Rattle.sets.specs.Sets.{has, among}
 use Rattle.meaning.specs.Meaning.{Meaning, qubits}
 use Rattle.rules.specs.States.{State}
 use Rattle.rules.specs.Clusters.{cluster}
@@ -30,13 +30,13 @@ loop-q-preserved-then-not-is_erased c =
       marks = c.loop-q.invariant.marks;
     }
 
-pub loop-q-preserved-then-eq : goal.loop-q-preserved-then-eq
-loop-q-preserved-then-eq c =
+pub loop-q-preserved-then-is_marked : goal.loop-q-preserved-then-is_marked
+loop-q-preserved-then-is_marked c =
     let M : Meaning = meaning_of c.args.board.now.erasures.table.now in
     let q = c.loop-q.q in
     let y = c.args.scratch.now in
     let low : q < qubits M = omega (arith, c.loop-q-test.true, c.qubits-q-end.ensures) in
-    let here : has c.loop-q.passed q ≡ true = search rules in
+    let here : has c.loop-q.passed q ≡ true = sym c.is_marked.ensures ∙ c.if-is_marked.true in
     record {
       walks = c.loop-q.invariant.walks;
       scratch = c.loop-q.invariant.scratch;

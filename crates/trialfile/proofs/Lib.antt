@@ -1,3 +1,4 @@
 pub mod Each
 pub mod Accepted
 pub mod Within
+pub mod Faulted

@@ -9,9 +9,9 @@ use Rattle.rules.specs.declared.answers.Outcome.TheVariants.{Solved, Nothing, Un
 use Rattle.rules.specs.States.{State}
 use Rattle.rules.specs.Tallies.{outcome}
 use Rattle.rules.specs.Run.{run}
-use Rattle.rules.proofs.Runs.{run_calls}
 use Rattle.rules.proofs.Turns.{run_ends}
 use Rattle.rules.proofs.Full.{full_run}
+use Rattle.run.proofs.Made.{run_is_made}
 use Rattle.run.specs.Promises.{OfReports, CountsAsCalls, AtEnd, RunsToEnd, Finishes}
 
 differ : (o : Outcome) → (o ≡ Nothing) ⊎ (o ≡ Solved) → o ≢ Unfinished
@@ -34,8 +34,10 @@ module _ (M : Meaning) (sound : Sound M) (s : State) (slip switches : ℕ) (scra
   abbrev answer_is : r ≡ (run M s slip switches scratch).0
   answer_is = ap (λ (x : Result Ending Refusal × State × List ℕ). x.0) does
 
-  pub counts_as_calls : CountsAsCalls M s t
-  counts_as_calls = let c = run_calls M s slip switches scratch in (c.0, state_is ∙ c.1)
+  pub counts_as_calls : CountsAsCalls M s switches scratch r t
+  counts_as_calls =
+      subst (λ (u : State). CountsAsCalls M s switches scratch r u) (sym state_is)
+      (subst (λ (a : Result Ending Refusal). CountsAsCalls M s switches scratch a (run M s slip switches scratch).1) (sym answer_is) (run_is_made M s slip switches scratch))
 
   module _ (e : Ending) (ok : r ≡ Ok e) where
     pub at_end : OfReports M s (λ R. AtEnd M switches scratch t)

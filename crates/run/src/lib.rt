@@ -36,7 +36,7 @@ pub fn run(
 ) -> Result<Ending, Refusal>
     ensures does { (result, trial.new.state, scratch.new) ≡ run (meaning_of trial.old.table) trial.old.state slip.now.number switches scratch.old }
     ensures table { trial.new.table ≡ trial.old.table }
-    ensures calls { CountsAsCalls (meaning_of trial.old.table) trial.old.state trial.new.state }
+    ensures calls { CountsAsCalls (meaning_of trial.old.table) trial.old.state switches scratch.old result trial.new.state }
     ensures ends { RunsToEnd (meaning_of trial.old.table) trial.old.state switches scratch.old result trial.new.state }
     ensures full { Finishes (meaning_of trial.old.table) trial.old.state switches result trial.new.state }
 {

@@ -1,12 +1,12 @@
 -- A trial that is run.
-use Rattle.std.specs.Prelude.{◌≡◌, ℕ, ◌⊎◌, List, [], ◌∷◌, replicate, Ok, Err, Result, nat_lt}
+use Rattle.std.specs.Prelude.{◌≡◌, ℕ, not, ◌||◌, ◌⊎◌, List, [], ◌∷◌, length, replicate, Ok, Err, Result, nat_lt}
 use Rattle.terms.specs.declared.refusal.Refusal.{Refusal}
-use Rattle.terms.specs.declared.refusal.Refusal.TheVariants.{NoMemory, OutsideLimits}
+use Rattle.terms.specs.declared.refusal.Refusal.TheVariants.{NoMemory, QubitTooLarge, CheckTooLarge, NotRising, OutsideLimits}
 use Rattle.meaning.specs.Meaning.{Meaning, qubits}
 use Rattle.rules.specs.declared.answers.Verdict.{Verdict}
-use Rattle.rules.specs.Reports.{report}
+use Rattle.rules.specs.Reports.{report, some_past, rises}
 use Rattle.rules.specs.States.{State}
-use Rattle.rules.specs.Refusing.{bar, unless, too_short}
+use Rattle.rules.specs.Refusing.{Bar, bar, unless, too_short}
 use Rattle.rules.specs.Tallies.{Tally, Opened, open_trial, close, copy_out}
 use Rattle.rules.specs.Run.{run}
 use Rattle.rules.specs.Law.{TrueOf}
@@ -22,11 +22,21 @@ decoded_from M switches buffer (Ok o) t =
     let s : State = run_from M switches o in
     ((close s o.slip t).answer, ((close s o.slip t).tally, (copy_out M s buffer).1))
 
--- first the buffer and the switches are looked at, then the trial is opened
+-- what is asked of the input, the smaller number first: the report, the buffer and the switches
+abbrev pub decode_bars : Meaning → List ℕ → List ℕ → ℕ → List ℕ → List Bar
+decode_bars M lost odds switches buffer =
+    bar (some_past (qubits M) lost) QubitTooLarge
+    ∷ bar (some_past (length M.checks) odds) CheckTooLarge
+    ∷ too_short M buffer
+    ∷ bar (not (rises lost) || not (rises odds)) NotRising
+    ∷ bar (nat_lt 15 switches) OutsideLimits
+    ∷ []
+
+-- then the trial is opened
 abbrev pub decoded : Meaning → Tally → List ℕ → List ℕ → ℕ → List ℕ → Result Verdict Refusal × (Tally × List ℕ)
 decoded M t lost odds switches buffer =
     let r : Result Opened Refusal × Tally = open_trial M t lost odds in
-    unless (too_short M buffer ∷ bar (nat_lt 15 switches) OutsideLimits ∷ []) (t, buffer) (decoded_from M switches buffer r.0 r.1)
+    unless (decode_bars M lost odds switches buffer) (t, buffer) (decoded_from M switches buffer r.0 r.1)
 
 -- the answer, the later tally and the later buffer are those of the rule; or memory was wanting, for the table, the scratch bytes or the trial, and both stay as they were
 abbrev pub Decodes : Result Verdict Refusal → Tally → List ℕ → Tally → List ℕ → Result Verdict Refusal × (Tally × List ℕ) → Type 0

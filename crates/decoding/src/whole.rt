@@ -4,9 +4,12 @@ ghost use Rattle.rules.specs.Run.{run};
 ghost use Rattle.rules.specs.Tallies.{closings, close, copy_out};
 ghost use Rattle.table.specs.OfTable.{meaning_of};
 ghost use Rattle.trial.specs.Closing.{TellsTruth};
-ghost use Rattle.decoding.specs.Running.{decoded, Decodes, TrueRun};
+ghost use Rattle.terms.specs.Answering.{checked};
+ghost use Rattle.upkeep.specs.Fault.{fault};
+ghost use Rattle.decoding.specs.Running.{decode_bars, decoded, Decodes, TrueRun};
 
 use code::Code;
+use marking::looking::{is_rising, some_past};
 use rules::answers::Verdict;
 use run::run;
 use run::switches::Switches;
@@ -47,14 +50,35 @@ pub fn decode_on(
     ensures does { Decodes result tally.old.counts buffer.old tally.new.counts buffer.new (decoded (meaning_of table.now) tally.old.counts report.entry.lost.now report.entry.odd.now switches buffer.old) }
     ensures truth { TrueRun (meaning_of table.now) tally.old.counts report.entry.lost.now report.entry.odd.now switches result }
 {
-    let qubits = table.qubits() as usize;
-    if buffer.len() < qubits {
-        return Err(Refusal::BufferTooShort);
-    }
-    Switches::of(switches)?;
-    let mut scratch = vec![in heap; 0u8; qubits]?;
+    decode_fault(table, report, switches, buffer)?;
+    let mut scratch = vec![in heap; 0u8; table.qubits() as usize]?;
     let opened = Trial::open(heap, table, report, tally)?;
     Ok(run_through(opened, switches, scratch.as_mut_slice(), buffer, tally))
+}
+
+/// Whether a decode is refused for its input, and why.
+fn decode_fault(
+    table: &Table,
+    report: Report<'_>,
+    switches: u16,
+    buffer: &[u8],
+) -> Result<(), Refusal>
+    ensures { result ≡ checked (fault (decode_bars (meaning_of table.now) report.entry.lost.now report.entry.odd.now switches buffer.now)) }
+{
+    if some_past(table.qubits(), report.lost) {
+        return Err(Refusal::QubitTooLarge);
+    }
+    if some_past(table.checks(), report.odd) {
+        return Err(Refusal::CheckTooLarge);
+    }
+    if buffer.len() < table.qubits() as usize {
+        return Err(Refusal::BufferTooShort);
+    }
+    if !is_rising(report.lost) || !is_rising(report.odd) {
+        return Err(Refusal::NotRising);
+    }
+    Switches::of(switches)?;
+    Ok(())
 }
 
 /// Runs a trial that was opened, copies the correction out and closes it.

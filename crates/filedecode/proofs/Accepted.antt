@@ -3,17 +3,17 @@ use Rattle.std.proofs.Common.{◌≡◌, ℕ, false, not, ◌||◌, ltb, List, [
 use Rattle.std.proofs.lemmas.Bool.{eq-eqb}
 use Rattle.std.proofs.lemmas.List.{append-nil, drop_all}
 use Rattle.terms.specs.declared.refusal.Refusal.{Refusal}
-use Rattle.terms.specs.declared.refusal.Refusal.TheVariants.{OutsideLimits, NoMemory}
+use Rattle.terms.specs.declared.refusal.Refusal.TheVariants.{NoMemory}
 use Rattle.meaning.specs.Meaning.{Meaning, qubits}
 use Rattle.rules.specs.declared.answers.Verdict.{Verdict}
-use Rattle.rules.specs.Refusing.{bar, too_short}
+use Rattle.rules.specs.Refusing.{too_short}
 use Rattle.rules.specs.States.{State, opening}
 use Rattle.rules.specs.Tallies.{Tally, Opened, new_tally, one_more, open_bars, open_trial, outcome, verdict, counted, close_bars, close, byte, copy_out}
 use Rattle.rules.specs.Law.{TrueOf}
 use Rattle.rules.proofs.Bars.{passed, not_ok}
 use Rattle.running.proofs.Numbered.{run_number}
 use Rattle.trialfile.specs.Contents.{Contents, code_of, WithinLimits}
-use Rattle.decoding.specs.Running.{decoded_from, decoded, Decodes, TrueRun}
+use Rattle.decoding.specs.Running.{decode_bars, decoded_from, decoded, Decodes, TrueRun}
 use Rattle.filedecode.specs.Printed.{report_of, end_of}
 
 -- what a decode is given beside the buffer and the switches, and what it is to be given for a file
@@ -65,7 +65,8 @@ module _ (c : Contents) (w : WithinLimits c) (buffer : List ℕ) (room : length 
 
   decodes : decoded M new_tally c.lost c.odd c.switches buffer ≡ (Ok (verdict end), (counted (outcome end) later, map byte end.flipped))
   decodes =
-      passed (too_short M buffer ∷ bar (ltb 15 c.switches) OutsideLimits ∷ []) (new_tally, buffer) (decoded_from M c.switches buffer (open_trial M new_tally c.lost c.odd).0 (open_trial M new_tally c.lost c.odd).1) (fits, (w.stages, tt))
+      passed (decode_bars M c.lost c.odd c.switches buffer) (new_tally, buffer) (decoded_from M c.switches buffer (open_trial M new_tally c.lost c.odd).0 (open_trial M new_tally c.lost c.odd).1)
+      (w.lost_qubits, (w.odd_checks, (fits, ((λ i. not (w.lost_rise i) || not (w.odd_rise i)), (w.stages, tt)))))
       ∙ ap (λ (r : Result Opened Refusal × Tally). decoded_from M c.switches buffer r.0 r.1) opens
       ∙ (λ i. (closes.0 i, (closes.1 i, copies i)))
 
@@ -81,3 +82,13 @@ module _ (c : Contents) (w : WithinLimits c) (buffer : List ℕ) (room : length 
     -- and its verdict is true of the report that the file states
     pub tells_true : (v : Verdict) → TrueRun g.code g.tally g.lost g.odds c.switches (Ok v) → TrueOf M (report_of c) end v
     tells_true v h = subst (λ (x : Given). TrueRun x.code x.tally x.lost x.odds c.switches (Ok v)) same h o later opens
+
+    -- and what it answers and copies out is what the rules say
+    abbrev verdict_in : Result Verdict Refusal → Verdict
+    verdict_in (Ok v) = v
+    verdict_in (Err e) = verdict end
+
+    pub answers : (v : Verdict) (u : Tally) (l : List ℕ) → Decodes (Ok v) g.tally buffer u l (decode_of g c.switches buffer) → (v ≡ verdict end) × (l ≡ map byte end.flipped)
+    answers v u l h =
+        let e = h ∙ told in
+        (ap (λ (r : Result Verdict Refusal × (Tally × List ℕ)). verdict_in r.0) e, ap (λ (r : Result Verdict Refusal × (Tally × List ℕ)). r.1.1) e)

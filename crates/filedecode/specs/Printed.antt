@@ -1,6 +1,5 @@
 -- What is printed for a trial file, from its bytes to the bytes of the lines; and that it is true of the report that the file states.
 use Rattle.std.specs.Prelude.{◌≡◌, ℕ, List, [], map, Some, None, Ok, Err, Option, Result}
-use Rattle.rules.specs.declared.answers.Verdict.{Verdict}
 use Rattle.rules.specs.Reports.{Report, report}
 use Rattle.rules.specs.States.{State, opening}
 use Rattle.rules.specs.Tallies.{verdict, byte}
@@ -34,13 +33,9 @@ printed_of (Err e) = line_or_none (refused_line e)
 abbrev pub printed : List ℕ → List ℕ
 printed file = printed_of (file_says file)
 
--- the lines are those of a verdict and a correction, the flipped qubits of a trial, that keep the promise of the outcome for the report
-pub record TrueLines (c : Contents) (lines : List ℕ) : Type 0 where
-  pub trial : State
-  pub answer : Verdict
-  pub shows : lines ≡ verdict_lines c.rows c.columns answer (map byte trial.flipped)
-  pub truth : TrueOf (code_of c) (report_of c) trial answer
+-- the verdict that is printed for an accepted file keeps its promise for the report that the file states, with the printed qubits as the correction
+abbrev pub TrueLines : Contents → Type 0
+TrueLines c = TrueOf (code_of c) (report_of c) (end_of c) (verdict (end_of c))
 
--- what is printed for an accepted file is true of the report that it states
-abbrev pub TrueOfFile : List ℕ → List ℕ → Type 0
-TrueOfFile file lines = (c : Contents) → file_says file ≡ Ok c → TrueLines c lines
+abbrev pub TrueOfFile : List ℕ → Type 0
+TrueOfFile file = (c : Contents) → file_says file ≡ Ok c → TrueLines c

@@ -25,8 +25,8 @@ use trialfile::file::TrialFile;
 pub fn decode_file(heap: Global, file: &[u8]) -> Result<String, AllocError>
     ensures lines { IfOk result (λ s. string_bytes s ≡ printed file.now) }
     ensures short { IfOk result (λ s. length (string_bytes s) ≤ 65536) }
-    ensures some { 0 < length (printed file.now) }
-    ensures truth { IfOk result (λ s. TrueOfFile file.now (string_bytes s)) }
+    ensures never_empty { 0 < length (printed file.now) }
+    ensures truth { IfOk result (λ _. TrueOfFile file.now) }
 {
     match TrialFile::read(heap, file) {
         Ok(file) => trial_lines(heap, &file),
@@ -39,7 +39,7 @@ fn trial_lines(heap: Global, file: &TrialFile) -> Result<String, AllocError>
     requires within { WithinLimits (contents_of file.now) }
     ensures lines { IfOk result (λ s. string_bytes s ≡ trial_lines (contents_of file.now)) }
     ensures short { IfOk result (λ s. length (string_bytes s) ≤ 65536) }
-    ensures truth { IfOk result (λ s. TrueLines (contents_of file.now) (string_bytes s)) }
+    ensures truth { IfOk result (λ _. TrueLines (contents_of file.now)) }
 {
     let mut flips = vec![in heap; 0u8; usize::from(file.sizes.qubits())]?;
     let verdict = verdict_of(heap, file, &mut flips)?;

@@ -1,5 +1,5 @@
 -- What a host is answered, and what its buffer then holds.
-use Rattle.std.specs.Prelude.{◌≡◌, ◌<◌, ℕ, cond, ◌⊎◌, List, ◌++◌, length, take, drop, nat_lt}
+use Rattle.std.specs.Prelude.{◌≡◌, ◌<◌, ℕ, cond, ◌⊎◌, List, ◌++◌, length, drop, nat_lt}
 use Rattle.filedecode.specs.Printed.{printed, TrueOfFile}
 
 -- how many bytes a buffer has to have: the lines of each file fit
@@ -19,5 +19,5 @@ abbrev pub HostsUnlessMemory : ℕ → List ℕ → List ℕ → ℕ × List ℕ
 HostsUnlessMemory count before after told = ((count, after) ≡ told) ⊎ ((count ≡ 0) × (after ≡ before))
 
 -- lines that were written are true of the report that the file states
-abbrev pub WritesTruth : List ℕ → ℕ → List ℕ → Type 0
-WritesTruth file count after = 0 < count → TrueOfFile file (take count after)
+abbrev pub WritesTruth : List ℕ → ℕ → Type 0
+WritesTruth file count = 0 < count → TrueOfFile file

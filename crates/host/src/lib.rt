@@ -16,7 +16,7 @@ const LEAST_ROOM: usize = 65536;
 #[unsafe(no_mangle)]
 pub extern "C" fn pearprompt_decode(heap: Global, file: &[u8], out: &mut [u8]) -> usize
     ensures lines { HostsUnlessMemory result out.old out.new (hosted file.now out.old) }
-    ensures truth { WritesTruth file.now result out.new }
+    ensures truth { WritesTruth file.now result }
 {
     if out.len() < LEAST_ROOM {
         return 0;

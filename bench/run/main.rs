@@ -3,28 +3,10 @@
 use std::hint::black_box;
 use std::time::Instant;
 
-/// The place of a one in a seed, as the library has it.
-#[repr(C)]
-#[derive(Clone, Copy)]
-struct Place {
-    row: u16,
-    column: u16,
-}
+#[path = "../runs.rs"]
+mod runs;
 
-unsafe extern "C" {
-    fn runs_of_product(
-        rows: u16,
-        columns: u16,
-        ones: *const Place,
-        ones_count: usize,
-        lost: *const u16,
-        lost_count: usize,
-        odd: *const u16,
-        odd_count: usize,
-        switches: u16,
-        times: u16,
-    ) -> u16;
-}
+use runs::{Place, runs};
 
 const ROUNDS: usize = 9;
 
@@ -57,20 +39,7 @@ fn read(text: &str) -> File {
 
 fn seconds(file: &File, switches: u16, times: u16) -> (f64, u16) {
     let start = Instant::now();
-    let answer = unsafe {
-        runs_of_product(
-            file.rows,
-            file.columns,
-            file.ones.as_ptr(),
-            file.ones.len(),
-            file.lost.as_ptr(),
-            file.lost.len(),
-            file.odd.as_ptr(),
-            file.odd.len(),
-            switches,
-            times,
-        )
-    };
+    let answer = runs(file.rows, file.columns, &file.ones, &file.lost, &file.odd, switches, times);
     (start.elapsed().as_secs_f64(), black_box(answer))
 }
 

@@ -3,28 +3,10 @@
 use std::hint::black_box;
 use std::time::Instant;
 
-/// The place of a one in a seed, as the library has it.
-#[repr(C)]
-#[derive(Clone, Copy)]
-struct Place {
-    row: u16,
-    column: u16,
-}
+#[path = "../runs.rs"]
+mod runs;
 
-unsafe extern "C" {
-    fn runs_of_product(
-        rows: u16,
-        columns: u16,
-        ones: *const Place,
-        ones_count: usize,
-        lost: *const u16,
-        lost_count: usize,
-        odd: *const u16,
-        odd_count: usize,
-        switches: u16,
-        times: u16,
-    ) -> u16;
-}
+use runs::{Place, runs};
 
 const ROUNDS: usize = 15;
 const TIMES: u16 = 2000;
@@ -43,9 +25,7 @@ fn seed(n: u16) -> Vec<Place> {
 fn seconds(n: u16, lost: &[u16], switches: u16) -> f64 {
     let ones = seed(n);
     let start = Instant::now();
-    let answer = unsafe {
-        runs_of_product(n, n, ones.as_ptr(), ones.len(), lost.as_ptr(), lost.len(), std::ptr::null::<u16>().wrapping_add(1), 0, switches, TIMES)
-    };
+    let answer = runs(n, n, &ones, lost, &[], switches, TIMES);
     black_box(answer);
     start.elapsed().as_secs_f64()
 }

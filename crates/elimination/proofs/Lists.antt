@@ -30,7 +30,7 @@ module _ {X : Type 0} where
       let e' : p + suc i ≡ length l = omega arith in
       set-append_left (rev l) (x ∷ []) i v h ∙ ap (λ t. t ++ (x ∷ [])) (set_rev l p i v e')
 
-  get_or_rev : (l : List X) (p i : ℕ) (d : X) → p + suc i ≡ length l → get_or (rev l) i d ≡ get_or l p d
+  pub get_or_rev : (l : List X) (p i : ℕ) (d : X) → p + suc i ≡ length l → get_or (rev l) i d ≡ get_or l p d
   get_or_rev l p i d e =
       let h : i < length l = omega arith in
       let k : length l - 1 - i ≡ p = omega arith in
@@ -49,7 +49,7 @@ module _ {X : Type 0} where
       )
 
   -- a part of a list, put back as long as it was
-  refill : (k : ℕ) (D S : List X) → length S ≡ length (take k D) → length (S ++ drop k D) ≡ length D
+  pub refill : (k : ℕ) (D S : List X) → length S ≡ length (take k D) → length (S ++ drop k D) ≡ length D
   refill k D S e = length-append S (drop k D) ∙ ap (λ m. m + length (drop k D)) e ∙ sym (length-append (take k D) (drop k D)) ∙ ap length (take-append-drop k D)
 
   -- what a Vec holds whose front was lent, and is S then

@@ -65,13 +65,8 @@ module _ {F : Type 0} (K : Field F) where
   drop_mix k (suc n) (y ∷ o) [] e = absurd (omega arith)
   drop_mix k (suc n) (y ∷ o) (x ∷ r) e = let e' : length r ≡ length o = omega arith in drop_mix k n o r e'
 
-  first_mix : (k : F) (o r : List F) → length r ≡ length o → 0 < length r → get_or (mix K k o r) 0 zer ≡ add (get_or r 0 zer) (mul k (get_or o 0 zer))
-  first_mix k o [] e h = absurd (omega arith)
-  first_mix k [] (x ∷ r) e h = absurd (omega arith)
-  first_mix k (y ∷ o) (x ∷ r) e h = refl
-
   -- k times the row R is added to x from place a on, which is r but for its right side
-  module _ (j : ℕ) (k : F) (R r x : List F) (a m : ℕ) (h : a ≤ j + 1) (lo : j + 1 < length x) (n : length x ≡ length R) (mx : m ≡ length x - a) (S : List F) (se : S ≡ mix K k (drop a R) (drop a x)) where
+  module _ (j : ℕ) (k : F) (R r x : List F) (a m : ℕ) (h : a ≤ j + 2) (lo : j + 1 < length x) (n : length x ≡ length R) (mx : m ≡ length x - a) (S : List F) (se : S ≡ mix K k (drop a R) (drop a x)) where
     behind_from : drop (suc (suc j)) x ≡ drop (suc (suc j)) r → drop (suc (suc j)) (put_mid a m x S) ≡ mix K k (drop (suc (suc j)) R) (drop (suc (suc j)) r)
     behind_from b =
         let d : ℕ = suc (suc j) - a in
@@ -90,16 +85,6 @@ module _ {F : Type 0} (K : Field F) where
         record {
           right = first_put a m x S zer p l ∙ ap (λ t. get_or t 0 zer) xe ∙ get_or-set_same r 0 v zer r-long ∙ ve;
           behind = behind_from (ap (drop (suc (suc j))) xe ∙ drop-set-lt (suc (suc j)) r 0 v (omega arith));
-        }
-
-    pub added_at_once : a ≡ 0 → x ≡ r → AddedFrom K j k R r (put_mid a m x S)
-    added_at_once z xe =
-        let whole : S ≡ mix K k R x = se ∙ ap (λ i. mix K k (drop i R) (drop i x)) z in
-        let l : 0 < length x = omega arith in
-        let all : length x ≤ m = omega arith in
-        record {
-          right = ap (λ i. get_or (put_mid i m x S) 0 zer) z ∙ ap (λ t. get_or (S ++ t) 0 zer) (drop_all m x all) ∙ ap (λ t. get_or t 0 zer) (append-nil S ∙ whole) ∙ first_mix k R x n l ∙ ap (λ t. add (get_or t 0 zer) (mul k (get_or R 0 zer))) xe;
-          behind = behind_from (ap (drop (suc (suc j))) xe);
         }
 
   -- the row r₀ came as far as column j, and is r there

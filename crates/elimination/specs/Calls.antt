@@ -6,7 +6,6 @@ use Rattle.linear.specs.Field.{Field}
 use Rattle.linear.specs.Basis.{dot}
 use Rattle.linear.specs.System.{Row}
 use Rattle.elimination.specs.Holds.{Zeros}
-use Rattle.elimination.specs.declared.Elimination.{Elimination}
 
 -- more than 256 unknowns are refused
 abbrev pub too_many : ℕ → Option Refusal

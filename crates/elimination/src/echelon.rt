@@ -20,6 +20,9 @@ const CELLS: usize = MOST * STRIDE;
 /// How many coefficients of one byte a vector instruction adds.
 const LANES: usize = 16;
 
+/// With fewer places than this behind a column an addition begins right behind it.
+const FEW: usize = 4 * LANES;
+
 /// A table of at most 256 columns, in memory for so many.
 #[derive(Drop)]
 pub(crate) struct Echelon<T> {
@@ -99,18 +102,30 @@ impl<T: Value> Echelon<T> {
         None
     }
 
-    /// Adds `k` times the row of a column, on the right side and behind the column. What stands before the column is not read again, so the addition
-    /// begins at a place from which on whole vectors fit (docs/performance.md).
+    /// Where the addition of the row of a column begins. What stands up to the column is not read again, so with many places behind it the addition
+    /// may begin before them, where whole vectors fit; with few of them that would cost more than it saves (docs/performance.md).
+    fn start(&self, j: usize) -> usize
+        requires { j < self.now.width }
+        ensures { (1 ≤ result) × (result ≤ j + 2) }
+    {
+        let behind = self.width - j - 1;
+        if behind < FEW {
+            return j + 2;
+        }
+        (j + 2)
+            .saturating_sub((LANES - behind % LANES) % LANES)
+            .max(1)
+    }
+
+    /// Adds `k` times the row of a column, on the right side and behind the column.
     fn add_row(&self, j: usize, k: T, row: &mut [T])
         requires column { j < self.now.width }
         requires long { length row.old ≡ self.now.width + 1 }
         ensures { AddedFrom T.Value.field j k (row_of self.now.width self.now.cells.items j) row.old row.new }
     {
         let pivot = self.row(j);
-        let start = (j + 1) / LANES * LANES;
-        if start > 0 {
-            row[0] = row[0].plus(k.times(pivot[0]));
-        }
+        let start = self.start(j);
+        row[0] = row[0].plus(k.times(pivot[0]));
         add_times(&mut row[start..], k, &pivot[start..]);
     }
 

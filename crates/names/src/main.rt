@@ -5,14 +5,19 @@
 use anyhow::anyhow;
 use naming::texts::{names, places_in, refusal_line};
 use product::seed::Seed;
-use std::alloc::Global;
+use std::alloc::{AllocError, Global};
 use std::env;
 use std::env::Args;
 use terms::refusal::Refusal;
 
 fn main(rt: HostRuntime) -> anyhow::Result<()> {
     let heap = rt.alloc();
-    match list(heap, env::args(&rt)?) {
+    let numbers = match numbers_in(heap, env::args(&rt)?) {
+        // Where memory is wanting for the arguments themselves the program ends, and prints no line.
+        Err(Refusal::NoMemory) => return Err(AllocError.into()),
+        numbers => numbers,
+    };
+    match numbers.and_then(|numbers| list(heap, numbers.as_slice())) {
         Ok(text) => {
             rt.print(text)?;
             Ok(())
@@ -24,10 +29,9 @@ fn main(rt: HostRuntime) -> anyhow::Result<()> {
     }
 }
 
-fn list(heap: Global, arguments: Args) -> Result<String, Refusal> {
-    let numbers = numbers_in(heap, arguments)?;
-    let places = places_in(heap, numbers.as_slice())?;
-    let [rows, columns, ..] = numbers.as_slice() else {
+fn list(heap: Global, numbers: &[u16]) -> Result<String, Refusal> {
+    let places = places_in(heap, numbers)?;
+    let [rows, columns, ..] = numbers else {
         return Err(Refusal::WrongEnd);
     };
     let seed = Seed {

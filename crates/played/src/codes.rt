@@ -7,7 +7,7 @@ ghost use Rattle.product.specs.OfProduct.{meaning_of as product_meaning, told_of
 ghost use Rattle.product.specs.Seed.{seed_fault, seed_of};
 ghost use Rattle.listed.specs.Fault.{listed_fault};
 ghost use Rattle.listed.specs.OfListed.{sides_of, meaning_of as listed_meaning, told_of as listed_tells};
-ghost use Rattle.played.specs.Reading.{place_of, seed_rows, seed_columns, seed_places, listed_sides, listed_checks, listed_generators, counted_rows, after_counted_rows};
+ghost use Rattle.played.specs.Reading.{place_of, seed_rows, seed_columns, seed_places, counted, after_counted, listed_sides, listed_checks, listed_generators, counted_rows, after_counted_rows};
 
 use crate::numbers::{Numbers, shortened};
 use listed::Listed;
@@ -52,21 +52,24 @@ pub fn listed_in(heap: Global, numbers: &[u32]) -> Result<Listed, Refusal>
     ensures { let l = numbers.now in AnswersUnlessMemory result (listed_fault (listed_checks l) (listed_generators l) (listed_sides l)) (λ c. (listed_meaning c ≡ listed_code (listed_checks l) (listed_generators l) (sides_of (listed_sides l))) × (listed_tells c ≡ listed_told (listed_checks l) (listed_generators l))) }
 {
     let mut rest = Numbers::new(numbers);
-    let sides = rest.list(heap)?;
-    let sides = bytes_of(heap, sides.as_slice())?;
+    let sides = sides_in(heap, &mut rest)?;
     let checks = rows_in(heap, &mut rest)?;
     let generators = rows_in(heap, &mut rest)?;
     Listed::new(sides, checks, generators)
 }
 
-/// Numbers of sides as bytes; what is larger than any becomes the largest.
-fn bytes_of(heap: Global, sides: &[u16]) -> Result<Vec<u8>, AllocError>
-    ensures { IfOk result (λ v. v.items ≡ map (λ side. min side 255) sides.now) }
+/// A count and so many sides as bytes; what is larger than any becomes the largest.
+fn sides_in(heap: Global, numbers: &mut Numbers<'_>) -> Result<Vec<u8>, AllocError>
+    ensures sides { IfOk result (λ v. v.items ≡ map (λ side. min side 255) (counted numbers.old)) }
+    ensures rest { OnOk result (numbers.new ≡ after_counted numbers.old) }
 {
-    sides
-        .iter()
-        .map(|side| u8::try_from(*side).unwrap_or(u8::MAX))
-        .collect(heap)
+    // Kept: a loop, as in `Numbers::list`, and no call of it: a list of numbers beside the bytes would take three times the memory.
+    let count = numbers.next();
+    let mut sides = Vec::new(heap);
+    for _read in 0..count {
+        sides.push(numbers.byte())?;
+    }
+    Ok(sides)
 }
 
 /// A count and so many rows.

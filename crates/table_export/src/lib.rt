@@ -1,11 +1,10 @@
 //! Tables of product codes for a host: a seed in, the number of qubits out. The benchmark calls it.
 #![tactic(auto)]
 
-ghost use Rattle.std.specs.Prelude.{◌≡◌};
+ghost use Rattle.std.specs.Prelude.{◌≡◌, None};
 ghost use Rattle.terms.specs.Answering.{AnswersIfMemory};
 ghost use Rattle.meaning.specs.Meaning.{qubits};
-ghost use Rattle.meaning.specs.Product.{product_code};
-ghost use Rattle.product.specs.Seed.{fault_of, matrix_of};
+ghost use Rattle.product.specs.OfProduct.{meaning_of};
 ghost use Rattle.table_export.specs.Seeds.{Tells};
 
 use product::place::Place;
@@ -33,17 +32,19 @@ pub extern "C" fn tables_of_product(
         columns,
         ones,
     };
-    counted(heap, seed, times).unwrap_or(0)
+    let Ok(code) = Product::new(seed) else {
+        return 0;
+    };
+    for _ in 1..times {
+        let _ = counted(heap, &code);
+    }
+    counted(heap, &code).unwrap_or(0)
 }
 
-/// The same, with the refusal.
-fn counted(heap: Global, seed: Seed, times: u16) -> Result<u16, Refusal>
-    ensures { AnswersIfMemory result (fault_of seed.entry) (λ n. n ≡ qubits (product_code seed.entry.rows seed.entry.columns (matrix_of seed.entry))) }
+/// How many qubits a code has, by its table.
+fn counted(heap: Global, code: &Product) -> Result<u16, Refusal>
+    ensures { AnswersIfMemory result None (λ n. n ≡ qubits (meaning_of code.now)) }
 {
-    let code = Product::new(seed)?;
-    for _ in 1..times {
-        let _ = Table::of(heap, &code);
-    }
-    let table = Table::of(heap, &code)?;
+    let table = Table::of(heap, code)?;
     Ok(table.qubits())
 }

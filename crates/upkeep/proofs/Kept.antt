@@ -17,10 +17,10 @@ length_if false xs ys e = refl
 
 -- st is the status that was read at q
 module _ (status : List Status) (q : ℕ) (low : q < length status) (st : Status) (read : st ≡ get_or status q st) where
-  erased_at : has (erased_of status) q ≡ is_erased st
+  pub erased_at : has (erased_of status) q ≡ is_erased st
   erased_at = get_or-map is_erased status q st false low ∙ ap is_erased (sym read)
 
-  erased_done : erased_of (set status q Done) ≡ set (erased_of status) q false
+  pub erased_done : erased_of (set status q Done) ≡ set (erased_of status) q false
   erased_done = map-set is_erased status q Done
 
   pub counts_done : (sets : List (List Bool)) (counts : List ℕ) → counts ≡ counts_in sets (erased_of status)

@@ -11,10 +11,10 @@ pub returns : goal.returns
 returns c =
     let l = c.args.numbers.now in
     let told : List ℕ → List (List ℕ) → List (List ℕ) → Type 0 = λ s a b. Answers c.new.result (listed_fault a b s) (λ (x : Listed). (meaning_of x ≡ listed_code a b (sides_of s)) × (told_of x ≡ listed_told a b)) in
-    let sides : c.in_ok-sides-2.sides.items ≡ listed_sides l = c.in_ok-sides-2.ensures ∙ ap (map (λ side. min side 255)) (c.as_slice.ensures.value ∙ c.in_ok-sides.ensures.items ∙ ap counted c.new-rest.ensures) in
+    let sides : c.in_ok-sides.sides.items ≡ listed_sides l = c.in_ok-sides.ensures.sides ∙ ap (λ r. map (λ side. min side 255) (counted r)) c.new-rest.ensures in
     let left = c.in_ok-sides.ensures.rest ∙ ap after_counted c.new-rest.ensures in
     let checks : c.in_ok-checks.checks ≡ listed_checks l = c.in_ok-checks.ensures.rows ∙ ap counted_rows left in
     let generators : c.in_ok-generators.generators ≡ listed_generators l = c.in_ok-generators.ensures.rows ∙ ap counted_rows (c.in_ok-checks.ensures.rest ∙ ap after_counted_rows left) in
     inr
     (subst (λ s. told s (listed_checks l) (listed_generators l)) sides
-    (subst (λ a. told c.in_ok-sides-2.sides.items a (listed_generators l)) checks (subst (told c.in_ok-sides-2.sides.items c.in_ok-checks.checks) generators c.new.ensures)))
+    (subst (λ a. told c.in_ok-sides.sides.items a (listed_generators l)) checks (subst (told c.in_ok-sides.sides.items c.in_ok-checks.checks) generators c.new.ensures)))
